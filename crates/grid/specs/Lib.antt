@@ -1,0 +1,4 @@
+pub mod Counts
+pub mod Places
+pub mod Refusals
+pub mod Windows
