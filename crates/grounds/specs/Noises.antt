@@ -1,0 +1,23 @@
+-- The noise of a seed. Assumes nothing.
+--     seed-of n             the seed of a noise
+--     residue z             z modulo 2^32
+--     cell-number c         the number of a cell: y modulo 2^32 times 2^32, and x modulo 2^32
+--     noise-height s c      the output with the cell's number, divided by 2^52 and rounded down
+use Prim.Native.Nat.{ℕ, _+_, _-_, _*_, _/_, _%_, _^_}
+use lib.IntN.{ℤ, pos, negsuc}
+use Rattle.grid.specs.declared.cell.Cell.{Cell}
+use Rattle.grounds.specs.declared.noise.Noise.{Noise}
+use Rattle.grounds.specs.Splitmix.{output}
+
+abbrev pub seed-of : Noise → ℕ
+seed-of n = n .seed
+
+abbrev pub residue : ℤ → ℕ
+residue (pos n) = n % 2 ^ 32
+residue (negsuc n) = 2 ^ 32 - 1 - n % 2 ^ 32
+
+abbrev pub cell-number : Cell → ℕ
+cell-number c = residue (c .y) * 2 ^ 32 + residue (c .x)
+
+abbrev pub noise-height : ℕ → Cell → ℕ
+noise-height seed c = output seed (cell-number c) / 2 ^ 52

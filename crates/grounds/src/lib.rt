@@ -1,0 +1,3 @@
+// Grounds: the fields at the bottom of a pile.
+pub mod noise;
+pub mod splitmix;
