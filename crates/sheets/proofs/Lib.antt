@@ -1,3 +1,5 @@
 mod Cuts
 mod Decimals
 mod Lines
+mod Rows
+mod Texts

@@ -1,3 +1,5 @@
+pub mod Answers
 pub mod Fields
 pub mod Refusals
 pub mod Requests
+pub mod Texts

@@ -1,7 +1,9 @@
 -- The request line. Assumes nothing.
 --     kind-word k          the word of a kind
 --     Int32 z, Negative32 z     z fits 32 bits with a sign, and is negative too
+--     space, line-feed     the two bytes that part fields and end lines
 --     line-of q            the line of a request, its line feed included
+--     asked-corner q       the north-west cell of the window that is asked for
 --     Opens bs q           the bytes open with the line of q
 --     Asks bs q            the same, and the line has at most 80 bytes
 --     Reading-fields bs r  r is the one request with whose line the bytes open, if there is one
@@ -18,6 +20,7 @@ use Rattle.std.specs.declared.option.Option.{Option}
 use Rattle.std.specs.declared.option.Option.the-variants.{Some, None}
 use Rattle.std.specs.declared.result.Result.{Result}
 use Rattle.std.specs.declared.result.Result.the-variants.{Ok, Err}
+use Rattle.grid.specs.declared.cell.Cell.{Cell}
 use Rattle.sheets.specs.declared.request.Kind.{Kind}
 use Rattle.sheets.specs.declared.request.Kind.the-variants.{Raw, Heights, Sites, Roads}
 use Rattle.sheets.specs.declared.request.Request.{Request}
@@ -36,15 +39,18 @@ Int32 z = (negℤ (pos (2 ^ 31)) ≤ℤ z) × (z <ℤ pos (2 ^ 31))
 abbrev pub Negative32 : ℤ → Type 0
 Negative32 z = (negℤ (pos (2 ^ 31)) ≤ℤ z) × (z <ℤ pos 0)
 
-abbrev space : ℕ
+abbrev pub space : ℕ
 space = 32
 
-abbrev line-feed : ℕ
+abbrev pub line-feed : ℕ
 line-feed = 10
 
 abbrev pub line-of : Request → List ℕ
 line-of q =
     kind-word (q .kind) ++ space ∷ (decimal (q .seed) ++ space ∷ (signed (q .x) ++ space ∷ (signed (q .y) ++ space ∷ (decimal (q .width) ++ space ∷ (decimal (q .height) ++ line-feed ∷ [])))))
+
+abbrev pub asked-corner : Request → Cell
+asked-corner q = record { x = q .x; y = q .y }
 
 -- each number fits its type
 pub record In-range (q : Request) : Type 0 where

@@ -1,6 +1,9 @@
 // The request line: what is to be drawn.
 ghost use mathlib.Core.Path.{_≡_};
+ghost use Rattle.std.specs.declared.option.Option.the-variants.{Some};
 ghost use Rattle.sheets.specs.Refusals.{request-refusal};
+ghost use Rattle.sheets.specs.Requests.{kind-word};
+use std::fmt;
 
 mod field;
 mod read;
@@ -14,6 +17,20 @@ pub enum Kind {
     Heights,
     Sites,
     Roads,
+}
+
+// A kind is shown as the word that asks for it.
+pub impl fmt::Display for Kind as KindDisplay {
+    ghost shown = { λ k. Some (kind-word k) };
+
+    fn fmt<W: fmt::Write>(&self, f: &mut fmt::Formatter<W>) -> fmt::Result {
+        f.write_str(match self {
+            Kind::Raw => "raw",
+            Kind::Heights => "heights",
+            Kind::Sites => "sites",
+            Kind::Roads => "roads",
+        })
+    }
 }
 
 #[derive(Clone, Copy, Debug, PartialEq, Eq)]

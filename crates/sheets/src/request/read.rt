@@ -1,5 +1,6 @@
 // Reading a request from the bytes of its line.
-ghost use Rattle.sheets.specs.Requests.{Reading, Reading-fields};
+ghost use mathlib.Core.Path.{_≡_};
+ghost use Rattle.sheets.specs.Requests.{Reading, Reading-fields, asked-corner};
 use super::Request;
 use super::RequestRefusal;
 use super::field::take;
@@ -7,6 +8,7 @@ use super::values::I32Field;
 use super::values::KindField;
 use super::values::U16Field;
 use super::values::U64Field;
+use grid::cell::Cell;
 
 // The longest request line, its line feed included.
 pub const LONGEST_LINE: usize = 80;
@@ -31,5 +33,15 @@ impl Request {
     {
         let front = bytes.len().min(LONGEST_LINE);
         fields(&bytes[0..front]).ok_or(RequestRefusal::Unreadable)
+    }
+
+    // The north-west cell of the window that is asked for.
+    pub fn corner(&self) -> Cell
+        ensures { λ r. ⌜ r ≡ asked-corner (now (self .entry)) ⌝ }
+    {
+        Cell {
+            x: self.x,
+            y: self.y,
+        }
     }
 }
