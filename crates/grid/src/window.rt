@@ -6,8 +6,10 @@ ghost use Rattle.grid.specs.Places.{Side, cell-at, inside};
 use crate::cell::Cell;
 use crate::cell::CellDebug as _;
 
-mod methods;
-mod refusal;
+mod cells;
+mod make;
+mod parts;
+pub mod refusal;
 
 pub use refusal::WindowRefusal;
 

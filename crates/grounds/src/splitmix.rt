@@ -4,7 +4,9 @@ ghost use Prim.Native.Nat.{_<_};
 ghost use Rattle.grounds.specs.Splitmix.{multiplied, output};
 
 const INCREMENT: u64 = 0x9E37_79B9_7F4A_7C15;
+
 const FIRST_MULTIPLIER: u64 = 0xBF58_476D_1CE4_E5B9;
+
 const SECOND_MULTIPLIER: u64 = 0x94D0_49BB_1331_11EB;
 
 // z xor z shifted right, times a constant, modulo 2^64.

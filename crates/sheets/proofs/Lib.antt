@@ -1,5 +1,2 @@
-mod Cuts
-mod Decimals
-mod Lines
 mod Rows
 mod Texts

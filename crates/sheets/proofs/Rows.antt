@@ -8,7 +8,11 @@ use Rattle.std.specs.Iters.{counting}
 use Rattle.std.specs.shelf.Lists.{joined}
 use Rattle.std.proofs.shelf.Lists.{joined-more}
 use Rattle.std.proofs.shelf.Ways.{tells}
+use Rattle.std.specs.Results.{orOther}
+use Rattle.std.specs.Vec.{made}
 use Rattle.std.specs.declared.option.Option.the-variants.{Some}
+use Rattle.std.specs.declared.result.Result.{Result}
+use Rattle.std.specs.declared.result.Result.the-variants.{Ok, Err}
 use Rattle.grid.specs.declared.cell.Cell.{Cell}
 use Rattle.grid.specs.declared.window.Window.{Window}
 use Rattle.grid.specs.Windows.{cell-if-any, cell-of, height-of, width-of}
@@ -25,3 +29,8 @@ pub joined-counting : (f : ℕ → List ℕ) (n : ℕ) → joined f (counting 0 
 joined-counting f n =
     joined-more f [] (counting 0 n) n
     ∙ ap (joined f) (ap (λ (k : ℕ). counting 0 n ++ k ∷ []) (omega arith) ∙ sym (counting-more 0 n) ∙ ap (counting 0) (sym (add-one n)))
+
+-- where `r.or(Err(e))` is `Ok`, so was `r`
+pub went-well : {T E D P : Type 0} (r : Result T E) (x : T) (e : D) → Ok x ≡ orOther r (Err e) → made r (λ _. P) → P
+went-well (Ok y) x e h p = p
+went-well (Err y) x e h p = let z : _≡_ {A = ℕ} 0 1 = cc in absurd (omega arith)

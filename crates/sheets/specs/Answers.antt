@@ -17,13 +17,13 @@ use Rattle.grid.specs.Counts.{Counts}
 use Rattle.grid.specs.Refusals.{window-refusal}
 use Rattle.grid.specs.Windows.{Makes, Touches, cell-of, height-of, width-of}
 use Rattle.grounds.specs.Noises.{noise-height}
-use Rattle.sheets.specs.declared.answer.SheetError.{SheetError}
-use Rattle.sheets.specs.declared.answer.SheetError.the-variants.{NoMemory, NotBuilt}
-use Rattle.sheets.specs.declared.request.Kind.the-variants.{Raw}
-use Rattle.sheets.specs.declared.request.Request.{Request}
-use Rattle.sheets.specs.declared.request.RequestRefusal.{RequestRefusal}
-use Rattle.sheets.specs.Refusals.{request-refusal}
-use Rattle.sheets.specs.Requests.{Reading, asked-corner}
+use Rattle.sheets.specs.declared.error.SheetError.{SheetError}
+use Rattle.sheets.specs.declared.error.SheetError.the-variants.{NoMemory, NotBuilt}
+use Rattle.request.specs.declared.Kind.the-variants.{Raw}
+use Rattle.request.specs.declared.Request.{Request}
+use Rattle.request.specs.declared.RequestRefusal.{RequestRefusal}
+use Rattle.request.specs.Refusals.{request-refusal}
+use Rattle.request.specs.Requests.{Reading, asked-corner}
 use Rattle.sheets.specs.Texts.{fills-text, refusal-text, row-text}
 
 abbrev pub raw-row : ℕ → Window → ℕ → List ℕ
@@ -45,7 +45,7 @@ Prints-window q (Err e) out = out ≡ refusal-text (window-refusal e)
 abbrev pub Makes-for : Request → Result Window WindowRefusal → Type 0
 Makes-for q w = Makes (asked-corner q) (q .width) (q .height) w
 
--- what is printed where reading the request answered r
+-- what is printed where reading the line answered r
 abbrev pub Prints-request : Result Request RequestRefusal → List ℕ → Type 0
 Prints-request (Ok q) out = (w : Result Window WindowRefusal) × Makes-for q w × Prints-window q w out
 Prints-request (Err e) out = out ≡ refusal-text (request-refusal e)

@@ -1,5 +1,2 @@
 pub mod Answers
-pub mod Fields
-pub mod Refusals
-pub mod Requests
 pub mod Texts

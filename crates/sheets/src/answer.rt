@@ -6,72 +6,25 @@ ghost use Rattle.grounds.specs.Noises.{seed-of};
 ghost use Rattle.std.specs.Of.String.{string-bytes};
 ghost use Rattle.std.specs.Of.Vec.{vec-items};
 ghost use Rattle.std.specs.Results.{Cases};
+ghost use Rattle.std.specs.Vec.{made};
 ghost use Rattle.sheets.specs.Answers.{Drawn, Fails, Prints, raw-row};
 ghost use Rattle.sheets.specs.Texts.{refusal-text};
-ghost use Rattle.sheets.specs.declared.answer.SheetError.the-variants.{NoMemory};
-use crate::request::Kind;
-use crate::request::KindDebug as _;
-use crate::request::KindDisplay as _;
-use crate::request::Request;
+use crate::error::SheetError;
+use crate::error::SheetErrorFromAlloc;
 use crate::text::write_fills;
 use crate::text::write_refusal;
 use crate::text::write_row;
 use grid::window::Window;
 use grounds::noise::Noise;
+use request::Kind;
+use request::Request;
 use std::alloc::AllocError;
 use std::alloc::Global;
-use std::alloc::Refused;
-use std::error::Error;
-use std::fmt;
-
-// Why there is no answer.
-#[derive(Debug, Drop)]
-pub enum SheetError {
-    NoMemory,
-    // Drawings of this kind are not built yet.
-    NotBuilt(Kind),
-}
-
-pub impl fmt::Display for SheetError as SheetErrorDisplay {
-    fn fmt<W: fmt::Write>(&self, f: &mut fmt::Formatter<W>) -> fmt::Result {
-        match self {
-            SheetError::NoMemory => f.write_str("out of memory"),
-            SheetError::NotBuilt(kind) => write!(f, "the kind {kind} is not drawn yet"),
-        }
-    }
-}
-
-pub impl Error for SheetError as SheetErrorError {}
-
-pub impl From<AllocError> for SheetError as SheetErrorFromAlloc {
-    ghost converts = { λ _ r. r ≡ NoMemory };
-
-    fn from(_e: AllocError) -> SheetError {
-        SheetError::NoMemory
-    }
-}
-
-pub impl<T: Drop> From<Refused<T>> for SheetError as SheetErrorFromRefused {
-    ghost converts = { λ _ r. r ≡ NoMemory };
-
-    fn from(_e: Refused<T>) -> SheetError {
-        SheetError::NoMemory
-    }
-}
-
-// To write to a `String` fails for want of memory only.
-pub impl From<fmt::Error> for SheetError as SheetErrorFromFmt {
-    ghost converts = { λ _ r. r ≡ NoMemory };
-
-    fn from(_e: fmt::Error) -> SheetError {
-        SheetError::NoMemory
-    }
-}
 
 // The heights of a row of the window.
-fn raw_row(heap: Global, noise: Noise, window: Window, row: u16) -> Result<Vec<u16>, SheetError>
+fn raw_row(heap: Global, noise: Noise, window: Window, row: u16) -> Result<Vec<u16>, AllocError>
     requires { ⌜ row < height-of window ⌝ }
-    ensures { λ r. ⌜ Cases r (λ v. vec-items v ≡ raw-row (seed-of noise) window row) (λ e. e ≡ NoMemory) ⌝ }
+    ensures { λ r. ⌜ made r (λ v. vec-items v ≡ raw-row (seed-of noise) window row) ⌝ }
 {
     let mut heights = Vec::new(heap);
     for column in 0..window.width() {
@@ -84,23 +37,23 @@ fn raw_row(heap: Global, noise: Noise, window: Window, row: u16) -> Result<Vec<u
 }
 
 // The rows of the window, and how many chunks a newly opened world would fill for them.
-fn raw_sheet(heap: Global, noise: Noise, window: Window) -> Result<String, SheetError>
-    ensures { λ r. ⌜ Cases r (λ t. Drawn (seed-of noise) window (string-bytes t)) (λ e. e ≡ NoMemory) ⌝ }
+fn raw_sheet(heap: Global, noise: Noise, window: Window) -> Result<String, AllocError>
+    ensures { λ r. ⌜ made r (λ t. Drawn (seed-of noise) window (string-bytes t)) ⌝ }
 {
     let mut text = String::new(heap);
     for row in 0..window.height() {
         let heights = raw_row(heap, noise, window, row)?;
-        write_row(&mut text, heights.as_slice())?;
+        write_row(&mut text, heights.as_slice()).or(Err(AllocError))?;
     }
-    write_fills(&mut text, window.chunk_count())?;
+    write_fills(&mut text, window.chunk_count()).or(Err(AllocError))?;
     Ok(text)
 }
 
-fn refusal_line(heap: Global, number: u8) -> Result<String, SheetError>
-    ensures { λ r. ⌜ Cases r (λ t. string-bytes t ≡ refusal-text number) (λ e. e ≡ NoMemory) ⌝ }
+fn refusal_line(heap: Global, number: u8) -> Result<String, AllocError>
+    ensures { λ r. ⌜ made r (λ t. string-bytes t ≡ refusal-text number) ⌝ }
 {
     let mut text = String::new(heap);
-    write_refusal(&mut text, number)?;
+    write_refusal(&mut text, number).or(Err(AllocError))?;
     Ok(text)
 }
 
@@ -110,14 +63,14 @@ pub fn answer(heap: Global, input: &[u8]) -> Result<String, SheetError>
 {
     let request = match Request::read(input) {
         Ok(request) => request,
-        Err(refusal) => return refusal_line(heap, refusal.number()),
+        Err(refusal) => return Ok(refusal_line(heap, refusal.number())?),
     };
     let window = match Window::new(request.corner(), request.width, request.height) {
         Ok(window) => window,
-        Err(refusal) => return refusal_line(heap, refusal.number()),
+        Err(refusal) => return Ok(refusal_line(heap, refusal.number())?),
     };
     match request.kind {
-        Kind::Raw => raw_sheet(heap, Noise::new(request.seed), window),
+        Kind::Raw => Ok(raw_sheet(heap, Noise::new(request.seed), window)?),
         kind => Err(SheetError::NotBuilt(kind)),
     }
 }

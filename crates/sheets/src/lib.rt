@@ -1,4 +1,4 @@
-// What `sheet` answers: the request line, and the text of a drawing.
+// What `sheet` answers: the text of a drawing, or a refusal.
 pub mod answer;
-pub mod request;
+pub mod error;
 mod text;

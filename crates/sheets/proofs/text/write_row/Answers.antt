@@ -22,6 +22,6 @@ returns-in-Continue-write-others c =
     let others = spaced (take (length hs - 1) (drop 1 hs)) in
     made-weaker (c .writeln-in-len1-up .result) _ _
     (λ _ e. e
-      ∙ ap (λ (t : List ℕ). t ++ 10 ∷ []) (c .in-Continue-write-others .ensures tt ∙ ap (λ (t : List ℕ). t ++ others) (c .in-Continue-write .ensures tt .bytes))
-      ∙ row-full (string-bytes (c .args .text .now)) hs some)
+    ∙ ap (λ (t : List ℕ). t ++ 10 ∷ []) (c .in-Continue-write-others .ensures tt ∙ ap (λ (t : List ℕ). t ++ others) (c .in-Continue-write .ensures tt .bytes))
+    ∙ row-full (string-bytes (c .args .text .now)) hs some)
     (c .writeln-in-len1-up .ensures .bytes)

@@ -1,0 +1,3 @@
+mod Cuts
+mod Decimals
+mod Lines

@@ -1,8 +1,0 @@
--- The numbers of this crate's refusals. Assumes nothing.
---     request-refusal e     why no request was read
-use Prim.Native.Nat.{ℕ}
-use Rattle.sheets.specs.declared.request.RequestRefusal.{RequestRefusal}
-use Rattle.sheets.specs.declared.request.RequestRefusal.the-variants.{Unreadable}
-
-abbrev pub request-refusal : RequestRefusal → ℕ
-request-refusal Unreadable = 1
