@@ -1,3 +1,5 @@
-mod Chunks
+pub mod Chunks
 mod Counting
-mod Rectangles
+mod Locality
+pub mod Rectangles
+mod Squares

@@ -1,8 +1,10 @@
 // Cells of the endless grid.
 ghost use mathlib.Core.Path.{_≡_};
+ghost use Prim.Native.Nat.{_%_, _<_};
+ghost use lib.IntN.{pos, _+ℤ_, _*ℤ_};
 ghost use Rattle.std.specs.Orderings.{Decides};
 ghost use mathlib.Core.Bool.{true};
-ghost use Rattle.grid.specs.Places.{Before, Lies-in, cell-at, chunk-of, distance, inside};
+ghost use Rattle.grid.specs.Places.{Before, Lies-in, cell-at, cell-in, chunk-of, distance, eighth, inside, place-of};
 use crate::chunk::Chunk;
 
 // No coordinate of a cell inside the rim is further than this from 0.
@@ -12,6 +14,13 @@ pub const RIM: u32 = 1_000_000_000;
 pub struct Cell {
     pub x: i32,
     pub y: i32,
+}
+
+// The coordinate number `place`, modulo 8, of the eight in the chunk of this one. The chunks at both ends of the grid are whole, so no sum overflows.
+fn of_chunk(coordinate: i32, place: u8) -> i32
+    ensures { λ r. ⌜ r ≡ (pos 8 *ℤ eighth coordinate) +ℤ pos (place % 8) ⌝ }
+{
+    (coordinate >> 3) * 8 + (place % 8) as i32
 }
 
 impl Cell {
@@ -44,6 +53,24 @@ impl Cell {
         Chunk {
             x: self.x >> 3,
             y: self.y >> 3,
+        }
+    }
+
+    // The place of this cell in its chunk, in reading order from 0 to 63.
+    pub fn place(self) -> usize
+        ensures value { λ r. ⌜ r ≡ place-of self ⌝ }
+        ensures bound { λ r. ⌜ r < 64 ⌝ }
+    {
+        8 * self.y.rem_euclid(8) as usize + self.x.rem_euclid(8) as usize
+    }
+
+    // The cell at a place of the chunk in which this cell lies. Places past 63 go round.
+    pub fn chunk_cell(self, place: u8) -> Cell
+        ensures { λ r. ⌜ r ≡ cell-in (chunk-of self) (place % 64) ⌝ }
+    {
+        Cell {
+            x: of_chunk(self.x, place),
+            y: of_chunk(self.y, place / 8),
         }
     }
 

@@ -1,7 +1,7 @@
 // Chunks of 8 by 8 cells.
 ghost use mathlib.Core.Path.{_≡_};
 ghost use Prim.Native.Nat.{_<_};
-ghost use Rattle.grid.specs.Places.{slot-of};
+ghost use Rattle.grid.specs.Places.{same-chunk, slot-of};
 
 // The address of a chunk: the floor of x / 8 and of y / 8 for each of its cells. `Cell::chunk` is the only way to one.
 #[derive(Clone, Copy, Debug, PartialEq, Eq)]
@@ -17,5 +17,12 @@ impl Chunk {
         ensures bound { λ r. ⌜ r < 64 ⌝ }
     {
         8 * self.y.rem_euclid(8) as usize + self.x.rem_euclid(8) as usize
+    }
+
+    // Whether this is the address of the same chunk.
+    pub fn is(self, other: Chunk) -> bool
+        ensures { λ r. ⌜ r ≡ same-chunk self other ⌝ }
+    {
+        self.x == other.x && self.y == other.y
     }
 }

@@ -1,2 +1,4 @@
+pub mod Constants
+pub mod GroundLaws
 pub mod Noises
 pub mod Splitmix

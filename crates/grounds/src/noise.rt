@@ -1,9 +1,12 @@
 // Noise: a coast that is drawn from a seed alone.
 ghost use mathlib.Core.Path.{_≡_};
 ghost use Prim.Native.Nat.{_<_};
-ghost use Rattle.grounds.specs.Noises.{noise-height, residue, seed-of};
+ghost use Rattle.grounds.specs.GroundLaws.{noise-lawful};
+ghost use Rattle.grounds.specs.Noises.{noise, noise-height, residue, seed-of};
 use crate::splitmix::splitmix64;
+use grid::blank::Blank;
 use grid::cell::Cell;
+use grid::field::Field;
 
 #[derive(Clone, Copy, Debug)]
 pub struct Noise {
@@ -31,5 +34,21 @@ impl Noise {
     {
         let k = wrapped(at.y) * 0x1_0000_0000 + wrapped(at.x);
         (splitmix64(self.seed, k) >> 52) as u16
+    }
+}
+
+pub impl Field for Noise as NoiseField {
+    ghost meaning = { λ n. noise (seed-of n) };
+
+    ghost ordered = { λ _. Unit {0} };
+
+    ghost lawful = { λ n _. noise-lawful (seed-of n) };
+
+    fn ask(&mut self, at: Cell) -> Result<u16, Blank> {
+        if at.is_inside() {
+            Ok(self.height(at))
+        } else {
+            Err(Blank::new(at))
+        }
     }
 }
