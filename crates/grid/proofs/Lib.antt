@@ -3,3 +3,4 @@ mod Counting
 mod Locality
 pub mod Rectangles
 mod Squares
+pub mod Steps

@@ -1,0 +1,2 @@
+mod Surveys
+mod Walks

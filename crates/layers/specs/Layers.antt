@@ -5,6 +5,7 @@
 use Rattle.grid.specs.Meanings.{Lawful, Meaning}
 use Rattle.grid.specs.Piles.{Fit, Stencil, step}
 use Rattle.layers.specs.declared.layer.Layer.{Layer}
+use Rattle.grid.proofs.Steps.{step-lawful}
 
 module _ {F R : Type 0} where
   abbrev pub layer-meaning : (R → Stencil) → (F → Meaning) → Layer F R → Meaning
@@ -14,4 +15,4 @@ module _ {F R : Type 0} where
   layer-ordered o l = o (l .below)
 
   pub layer-lawful : (s : R → Stencil) (m : F → Meaning) (o : F → Type 0) → ((r : R) → Fit (s r)) → ((f : F) → o f → Lawful (m f)) → (l : Layer F R) → layer-ordered o l → Lawful (layer-meaning s m l)
-  layer-lawful s m o fit lawful l ordered = ?
+  layer-lawful s m o fit lawful l ordered = step-lawful (s (l .rule)) (m (l .below)) (fit (l .rule)) (lawful (l .below) ordered)

@@ -1,53 +1,25 @@
 // The answer to a request: the text that `sheet` prints.
 ghost use mathlib.Core.Path.{_≡_};
-ghost use Prim.Native.Nat.{_<_};
-ghost use Rattle.grid.specs.Windows.{height-of};
-ghost use Rattle.grounds.specs.Noises.{seed-of};
 ghost use Rattle.std.specs.Of.String.{string-bytes};
-ghost use Rattle.std.specs.Of.Vec.{vec-items};
 ghost use Rattle.std.specs.Results.{Cases};
 ghost use Rattle.std.specs.Vec.{made};
-ghost use Rattle.sheets.specs.Answers.{Drawn, Fails, Prints, raw-row};
+ghost use Rattle.sheets.specs.Answers.{Fails, Prints};
 ghost use Rattle.sheets.specs.Texts.{refusal-text};
+use crate::draw::draw;
 use crate::error::SheetError;
 use crate::error::SheetErrorFromAlloc;
-use crate::text::write_fills;
+use crate::kinds::heights;
 use crate::text::write_refusal;
-use crate::text::write_row;
 use grid::window::Window;
 use grounds::noise::Noise;
+use grounds::noise::NoiseField;
+use layers::layer::LayerField;
+use layers::smoothing::SmoothingRule;
 use request::Kind;
 use request::Request;
 use std::alloc::AllocError;
 use std::alloc::Global;
-
-// The heights of a row of the window.
-fn raw_row(heap: Global, noise: Noise, window: Window, row: u16) -> Result<Vec<u16>, AllocError>
-    requires { ⌜ row < height-of window ⌝ }
-    ensures { λ r. ⌜ made r (λ v. vec-items v ≡ raw-row (seed-of noise) window row) ⌝ }
-{
-    let mut heights = Vec::new(heap);
-    for column in 0..window.width() {
-        let Some(at) = window.cell(column, row) else {
-            unreachable()
-        };
-        heights.push(noise.height(at))?;
-    }
-    Ok(heights)
-}
-
-// The rows of the window, and how many chunks a newly opened world would fill for them.
-fn raw_sheet(heap: Global, noise: Noise, window: Window) -> Result<String, AllocError>
-    ensures { λ r. ⌜ made r (λ t. Drawn (seed-of noise) window (string-bytes t)) ⌝ }
-{
-    let mut text = String::new(heap);
-    for row in 0..window.height() {
-        let heights = raw_row(heap, noise, window, row)?;
-        write_row(&mut text, heights.as_slice()).or(Err(AllocError))?;
-    }
-    write_fills(&mut text, window.chunk_count()).or(Err(AllocError))?;
-    Ok(text)
-}
+use tables::cache::CacheField;
 
 fn refusal_line(heap: Global, number: u8) -> Result<String, AllocError>
     ensures { λ r. ⌜ made r (λ t. string-bytes t ≡ refusal-text number) ⌝ }
@@ -70,7 +42,8 @@ pub fn answer(heap: Global, input: &[u8]) -> Result<String, SheetError>
         Err(refusal) => return Ok(refusal_line(heap, refusal.number())?),
     };
     match request.kind {
-        Kind::Raw => Ok(raw_sheet(heap, Noise::new(request.seed), window)?),
+        Kind::Raw => Ok(draw(heap, &mut Noise::new(request.seed), window)?),
+        Kind::Heights => Ok(draw(heap, &mut heights(request.seed), window)?),
         kind => Err(SheetError::NotBuilt(kind)),
     }
 }
