@@ -106,9 +106,10 @@ places p =
     let column = p % 64 % 8 in
     let whole : p ≡ (p / 64 * 8 + row) * 8 + column = omega arith in
     let few : column < 8 = omega arith in
-    let low : row < 8 = omega arith in
-    ( ap (λ (k : ℕ). k % 8) whole ∙ mod-mul-add (p / 64 * 8 + row) 8 column few
-    , ap (λ (k : ℕ). k / 8 % 8) whole ∙ ap (λ (k : ℕ). k % 8) (div-mul-add (p / 64 * 8 + row) 8 column few) ∙ mod-mul-add (p / 64) 8 row low )
+    let low : row < 8 = omega arith in (
+      ap (λ (k : ℕ). k % 8) whole ∙ mod-mul-add (p / 64 * 8 + row) 8 column few,
+      ap (λ (k : ℕ). k / 8 % 8) whole ∙ ap (λ (k : ℕ). k % 8) (div-mul-add (p / 64 * 8 + row) 8 column few) ∙ mod-mul-add (p / 64) 8 row low,
+    )
 
 -- ---- the 64 cells of a chunk
 

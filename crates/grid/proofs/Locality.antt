@@ -30,7 +30,7 @@ step-same : (s : Stencil) (m n : Meaning) (c : Cell) → Agree (s .radius) m n c
 unfolding step
 step-same s m n c agree =
     ap (λ hs. cond (inside c) (ruled (s .value) hs) (Err (own-blank c)))
-      (survey-same m n (square (s .radius) c) (λ d a. agree d (squares (s .radius) c .within d a)))
+    (survey-same m n (square (s .radius) c) (λ d a. agree d (squares (s .radius) c .within d a)))
 
 pub locality : Locality
 unfolding carry margin

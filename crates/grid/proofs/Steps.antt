@@ -50,8 +50,8 @@ module _ (s : Stencil) (m : Meaning) (c : Cell) where
   unfolding step
   step-height fit law =
       step-cases (inside c) (survey m (square (s .radius) c)) (λ hs found.
-        let w = survey-whole m law (square (s .radius) c) hs found in
-        fit .height hs (record { size = w .0 ∙ square-length (s .radius) c; heights = w .1 }))
+      let w = survey-whole m law (square (s .radius) c) hs found in
+      fit .height hs (record { size = w .0 ∙ square-length (s .radius) c; heights = w .1 }))
 
 pub step-lawful : (s : Stencil) (m : Meaning) → Fit s → Lawful m → Lawful (step s m)
 step-lawful s m fit law = record { beyond = step-beyond s m; heights = λ c. step-height s m c fit law }

@@ -4,11 +4,9 @@ ghost use Rattle.grid.specs.Piles.{Locality, Squares};
 // Only ground within the margin can make two piles with the same rules answer a cell differently.
 pub fn locality()
     ensures { λ _. ⌜ Locality ⌝ }
-{
-}
+{}
 
 // The square of a rule is exactly the cells within its radius, each once, in reading order.
 pub fn squares()
     ensures { λ _. ⌜ Squares ⌝ }
-{
-}
+{}

@@ -89,6 +89,6 @@ module _ (s : Stencil) (m : Meaning) (c : Cell) (within : inside c ≡ true) (r 
   answers-height n hs h full long law w told =
       let size : length hs ≡ area (s .radius) = (long ∙ full) ∙ ap area radius in
       let walked : (k : ℕ) → k < area (s .radius) → m (nth (s .radius) c k) ≡ Ok (getD hs k 0) =
-          λ k l. subst (λ x. m (nth x c k) ≡ Ok (getD hs k 0)) radius (w k (omega arith)) in
+      λ k l. subst (λ x. m (nth x c k) ≡ Ok (getD hs k 0)) radius (w k (omega arith)) in
       let known = told (record { size = size; heights = all-from-getD Height hs 0 (λ k l. law .heights _ _ (walked k (omega arith))) }) in
       ap Ok known ∙ sym (step-all s m c within hs size walked)

@@ -1,14 +1,17 @@
 -- A row, and the text of the rows, by what is left of them. Assumes nothing.
 use Prim.Native.Nat.{ℕ, zero, suc, _+_, _-_, _≤_, _<_}
-use mathlib.Core.Path.{_≡_, refl, sym, ap, _∙_}
+use mathlib.Core.Path.{_≡_, refl, sym, ap, subst, _∙_}
 use mathlib.Core.List.{List, [], _∷_, _++_, append-assoc, append-nil, map}
 use native.Mathlib.Omega.{arith}
 use Rattle.std.specs.Iters.{counting}
+use Rattle.std.specs.Options.{Cases as BySome}
 use Rattle.std.specs.Results.{orOther}
 use Rattle.std.specs.Vec.{made}
-use Rattle.std.specs.declared.option.Option.the-variants.{Some}
+use Rattle.std.specs.declared.option.Option.{Option}
+use Rattle.std.specs.declared.option.Option.the-variants.{Some, None}
 use Rattle.std.specs.declared.result.Result.{Result}
 use Rattle.std.specs.declared.result.Result.the-variants.{Ok, Err}
+use Rattle.std.proofs.shelf.Results.{cases-at-none, cases-at-some}
 use Rattle.std.proofs.shelf.Ways.{tells}
 use Rattle.grid.specs.declared.blank.Blank.{Blank}
 use Rattle.grid.specs.declared.cell.Cell.{Cell}
@@ -16,7 +19,7 @@ use Rattle.grid.specs.declared.window.Window.{Window}
 use Rattle.grid.specs.Meanings.{Meaning}
 use Rattle.grid.specs.Piles.{before, survey}
 use Rattle.grid.specs.Windows.{cell-if-any, cell-of, height-of, width-of}
-use Rattle.sheets.specs.Answers.{drawn, row-cells, with-row}
+use Rattle.sheets.specs.Answers.{Blank-among, drawn, row-cells, with-row}
 use Rattle.sheets.specs.Texts.{fills-text, refusal-text, row-text}
 
 pub the-cell : (v : Window) (i j : ℕ) (at : Cell) → i < width-of v → j < height-of v → Some at ≡ cell-if-any v i j → at ≡ cell-of v i j
@@ -95,3 +98,12 @@ module _ (m : Meaning) (v : Window) (n : ℕ) where
 
   pub written-all : (j k : ℕ) (text : List ℕ) → n ≤ j → Written j text → text ++ fills-text k ≡ drawn m v (counting 0 n) k
   written-all j k text l so = ap (λ (js : List ℕ). text ++ drawn m v js k) (sym (none-left j n l)) ∙ so k
+
+-- ---- what `draw_row` said, of an equal meaning
+
+module _ {X : Type 0} (m m' : Meaning) (same : m ≡ m') (cs : List Cell) (items : X → List ℕ) (o : Option X) (said : BySome o (Blank-among m cs) (λ v. survey m cs ≡ Ok (items v))) where
+  pub blank-row : o ≡ None → Blank-among m' cs
+  blank-row e = subst (λ (n : Meaning). Blank-among n cs) same (cases-at-none _ _ e said)
+
+  pub whole-row : (x : X) → o ≡ Some x → survey m' cs ≡ Ok (items x)
+  whole-row x e = subst (λ (n : Meaning). survey n cs ≡ Ok (items x)) same (cases-at-some _ _ x e said)

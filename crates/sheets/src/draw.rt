@@ -21,7 +21,12 @@ use std::alloc::Global;
 const BLANK_REFUSAL: u8 = 6;
 
 // The heights of a row of the window, or none where one of its cells is blank.
-fn draw_row<F: Field>(heap: Global, field: &mut F, window: Window, row: u16) -> Result<Option<Vec<u16>>, AllocError>
+fn draw_row<F: Field>(
+    heap: Global,
+    field: &mut F,
+    window: Window,
+    row: u16,
+) -> Result<Option<Vec<u16>>, AllocError>
     requires { ⌜ row < height-of window ⌝ }
     ensures row { λ r. ⌜ (F·Field .ordered (now (field .entry)) → made r (λ o. BySome o (Blank-among (F·Field .meaning (now (field .entry))) (row-cells window row)) (λ hs. survey (F·Field .meaning (now (field .entry))) (row-cells window row) ≡ Ok (vec-items hs)))) ⌝ }
     ensures same { λ _. ⌜ (F·Field .ordered (now (field .entry)) → F·Field .meaning (now (field .exit)) ≡ F·Field .meaning (now (field .entry))) ⌝ }
@@ -41,7 +46,11 @@ fn draw_row<F: Field>(heap: Global, field: &mut F, window: Window, row: u16) -> 
 }
 
 // The text of the drawing: its rows, and how many chunks a newly opened world would fill for them.
-pub(crate) fn draw<F: Field>(heap: Global, field: &mut F, window: Window) -> Result<String, AllocError>
+pub(crate) fn draw<F: Field>(
+    heap: Global,
+    field: &mut F,
+    window: Window,
+) -> Result<String, AllocError>
     ensures { λ r. ⌜ (F·Field .ordered (now (field .entry)) → made r (λ t. Drawn (F·Field .meaning (now (field .entry))) window (string-bytes t))) ⌝ }
 {
     let mut text = String::new(heap);

@@ -32,15 +32,15 @@ labelled ss s k j len e =
     cond-both (eqb (slot-of j) (slot-of k)) (same-chunk k j) (is-chunk (getD ss (slot-of j) None) j)
     (λ b. is-chunk (getD (set ss s (Some k)) (slot-of j) None) j ≡ b)
     (λ t.
-      let q = eqb-true (slot-of j) (slot-of k) t in
-      let lt = slot-lt k in
-      let at : s ≡ slot-of j = omega arith in
-      let within : s < length ss = omega arith in
-      ap (λ (o : Option Chunk). is-chunk o j) (ap (λ (i : ℕ). getD (set ss s (Some k)) i None) (sym at) ∙ getD-set-same ss s (Some k) None within))
+    let q = eqb-true (slot-of j) (slot-of k) t in
+    let lt = slot-lt k in
+    let at : s ≡ slot-of j = omega arith in
+    let within : s < length ss = omega arith in
+    ap (λ (o : Option Chunk). is-chunk o j) (ap (λ (i : ℕ). getD (set ss s (Some k)) i None) (sym at) ∙ getD-set-same ss s (Some k) None within))
     (λ f.
-      let q = eqb-false (slot-of j) (slot-of k) f in
-      let other : slot-of j ≢ s = λ h. q (h ∙ e) in
-      ap (λ (o : Option Chunk). is-chunk o j) (getD-set-other ss s (slot-of j) (Some k) None other))
+    let q = eqb-false (slot-of j) (slot-of k) f in
+    let other : slot-of j ≢ s = λ h. q (h ∙ e) in
+    ap (λ (o : Option Chunk). is-chunk o j) (getD-set-other ss s (slot-of j) (Some k) None other))
 
 is-chunk-only : (o : Option Chunk) (k j : Chunk) → is-chunk o k ≡ true → is-chunk o j ≡ same-chunk k j
 is-chunk-only (Some i) k j h = ap (λ (l : Chunk). same-chunk l j) (same-chunk-true i k h)
@@ -90,9 +90,9 @@ pub filled-more : (m : Meaning) (k : Chunk) (p h : ℕ) (t t' : Table) → p < 6
 filled-more m k p h t t' lt put is before =
     below-more (λ q. stored t' (cell-in k q) ≡ mark (m (cell-in k q))) p
     (λ q below.
-      let i = index-cell-in k p lt in
-      let j = index-cell-in k q (omega arith) in
-      put .1 (cell-in k q) (λ same. omega arith) ∙ before q below)
+    let i = index-cell-in k p lt in
+    let j = index-cell-in k q (omega arith) in
+    put .1 (cell-in k q) (λ same. omega arith) ∙ before q below)
     (put .0 ∙ is)
 
 pub kept-more : (k : Chunk) (p h : ℕ) (t₀ t t' : Table) → p < 64 → Put (cell-in k p) h t t' → Kept k t₀ t → Kept k t₀ t'

@@ -7,6 +7,6 @@ use Rattle.sheets.proofs.draw.draw_row.Given as given
 abbrev pub Inv-loop-column : given.InvT-loop-column
 Inv-loop-column g l =
     g .F·Field .ordered (l .entry .field) →
-      g .F·Field .ordered (l .field)
-      × (g .F·Field .meaning (l .field) ≡ g .F·Field .meaning (l .entry .field))
-      × Found (g .F·Field .meaning (l .entry .field)) (λ i. cell-of (l .window) i (l .row)) (width-of (l .window)) (l .column) (vec-items (l .heights))
+    g .F·Field .ordered (l .field)
+    × (g .F·Field .meaning (l .field) ≡ g .F·Field .meaning (l .entry .field))
+    × Found (g .F·Field .meaning (l .entry .field)) (λ i. cell-of (l .window) i (l .row)) (width-of (l .window)) (l .column) (vec-items (l .heights))

@@ -16,8 +16,8 @@ returns g c =
       order = c .fill .ensures .order;
       held = c .fill .ensures .held;
       right = λ o r.
-        right-filled (g .F·Field .meaning (c .args .below .now)) (chunk-of (c .args .at)) (c .args .table .now) (c .fill .last .table)
-        (c .fill .ensures .held) (c .fill .ensures .fresh o) (c .fill .ensures .others) r;
+          right-filled (g .F·Field .meaning (c .args .below .now)) (chunk-of (c .args .at)) (c .args .table .now) (c .fill .last .table)
+          (c .fill .ensures .held) (c .fill .ensures .fresh o) (c .fill .ensures .others) r;
       others = c .fill .ensures .others;
       stays = λ h. absurd (false≢true (missing ∙ h));
     }

@@ -14,10 +14,10 @@ Inv-loop-column g l =
     × (length (l .square) ≡ 529)
     × (l .count ≡ l .row * l .side + l .column)
     × (g .F·Field .ordered (l .entry .self .below) →
-        g .F·Field .ordered (l .self .below)
-        × (g .F·Field .meaning (l .self .below) ≡ g .F·Field .meaning (l .entry .self .below))
-        × (Walked (g .F·Field .meaning (l .entry .self .below)) (l .radius) (l .at) (l .entry .count) (l .entry .square) →
-            Walked (g .F·Field .meaning (l .entry .self .below)) (l .radius) (l .at) (l .count) (l .square)))
+    g .F·Field .ordered (l .self .below)
+    × (g .F·Field .meaning (l .self .below) ≡ g .F·Field .meaning (l .entry .self .below))
+    × (Walked (g .F·Field .meaning (l .entry .self .below)) (l .radius) (l .at) (l .entry .count) (l .entry .square) →
+    Walked (g .F·Field .meaning (l .entry .self .below)) (l .radius) (l .at) (l .count) (l .square)))
 
 abbrev pub Inv-search : given.InvT-search
 Inv-search g l =
@@ -26,6 +26,6 @@ Inv-search g l =
     × (length (l .square) ≡ 529)
     × (l .count ≡ l .row * l .side)
     × (g .F·Field .ordered (l .entry .self .below) →
-        g .F·Field .ordered (l .self .below)
-        × (g .F·Field .meaning (l .self .below) ≡ g .F·Field .meaning (l .entry .self .below))
-        × Walked (g .F·Field .meaning (l .entry .self .below)) (l .radius) (l .at) (l .count) (l .square))
+    g .F·Field .ordered (l .self .below)
+    × (g .F·Field .meaning (l .self .below) ≡ g .F·Field .meaning (l .entry .self .below))
+    × Walked (g .F·Field .meaning (l .entry .self .below)) (l .radius) (l .at) (l .count) (l .square))
