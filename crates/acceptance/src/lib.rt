@@ -5,4 +5,6 @@ mod grid_tests;
 #[cfg(test)]
 mod noise_tests;
 #[cfg(test)]
+mod pile_tests;
+#[cfg(test)]
 mod sheet_tests;

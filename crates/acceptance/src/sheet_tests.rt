@@ -99,7 +99,7 @@ fn lines_that_are_refused() -> Result<(), Fail> {
 
 #[test]
 fn answers_of_the_reference(rt: LibcRuntime) -> Result<(), Fail> {
-    let cases: [(&[u8], &str); 8] = [
+    let cases: [(&[u8], &str); 14] = [
         (b"raw 0 0 0 4 1\n", "3618 1767 108 3976\nfills 1\n"),
         (
             b"raw 0 -3 -3 5 5\n",
@@ -112,6 +112,24 @@ fn answers_of_the_reference(rt: LibcRuntime) -> Result<(), Fail> {
         (
             b"raw 18446744073709551615 -1000000000 -1000000000 3 2\n",
             "3246 839 3663\n712 911 510\nfills 1\n",
+        ),
+        (
+            b"heights 0 -3 -3 5 5\n",
+            "1845 1941 1943 1903 1912\n1781 2003 2208 2361 2344\n1621 1998 2374 2618 2510\n1556 1983 2366 2534 2369\n1775 2037 2264 2381 2310\nfills 4\n",
+        ),
+        (
+            b"heights 42 6 -9 4 3\n",
+            "1493 1581 2067 2380\n1834 1885 2117 2233\n1968 2147 2207 2066\nfills 4\n",
+        ),
+        (
+            b"heights 7 -9 14 3 4\n",
+            "2073 1890 1949\n1925 1742 1649\n1783 1857 1830\n1899 2073 2124\nfills 4\n",
+        ),
+        (b"heights 0 -999999998 0 2 1\n", "2172 2401\nfills 1\n"),
+        (b"heights 0 -999999999 0 2 1\n", "refused 6\n"),
+        (
+            b"heights 0 5 999999996 2 4\n",
+            "2325 2504\n2463 2695\n2546 2569\nrefused 6\n",
         ),
         (b"raw 0 0 0 58 1\n", "refused 2\n"),
         (b"roads 0 2000000000 0 0 1\n", "refused 2\n"),
@@ -127,11 +145,7 @@ fn answers_of_the_reference(rt: LibcRuntime) -> Result<(), Fail> {
 
 #[test]
 fn kinds_that_are_not_built(rt: LibcRuntime) -> Result<(), Fail> {
-    let lines: [&[u8]; 3] = [
-        b"heights 0 0 0 4 1\n",
-        b"sites 0 0 0 4 1\n",
-        b"roads 0 0 0 4 1\n",
-    ];
+    let lines: [&[u8]; 2] = [b"sites 0 0 0 4 1\n", b"roads 0 0 0 4 1\n"];
     for line in lines {
         check(answer(rt.alloc(), line).is_err())?;
     }

@@ -1,6 +1,7 @@
 // A chunk table: 64 slots, each empty or with the address of one chunk and its 64 numbers.
 ghost use mathlib.Core.Path.{_≡_};
 ghost use mathlib.Core.Bool.{false};
+ghost use Prim.Native.Nat.{_<_};
 ghost use Rattle.grid.specs.declared.cell.Cell.{Cell};
 ghost use Rattle.grid.specs.declared.chunk.Chunk.{Chunk};
 ghost use Rattle.tables.specs.Tables.{holding, holds, index-of, stored};
@@ -15,6 +16,14 @@ pub struct Table {
     // The numbers of the chunk in slot s stand from 64 s on, in reading order.
     heights: [u16; 4096],
     chunks: [Option<Chunk>; 64],
+}
+
+// Where the number of a cell stands.
+fn index(at: Cell) -> usize
+    ensures value { λ r. ⌜ r ≡ index-of at ⌝ }
+    ensures bound { λ r. ⌜ r < 4096 ⌝ }
+{
+    64 * at.chunk().slot() + at.place()
 }
 
 impl Table {
@@ -47,7 +56,7 @@ impl Table {
     pub fn get(&self, at: Cell) -> u16
         ensures { λ r. ⌜ r ≡ stored (now (self .entry)) at ⌝ }
     {
-        self.heights[64 * at.chunk().slot() + at.place()]
+        self.heights[index(at)]
     }
 
     pub(crate) fn put(&mut self, at: Cell, number: u16)
@@ -55,7 +64,8 @@ impl Table {
         ensures others { λ _. ⌜ ((c : Cell) → (index-of c ≡ index-of at → ⊥) → stored (now (self .exit)) c ≡ stored (now (self .entry)) c) ⌝ }
         ensures held { λ _. ⌜ ((k : Chunk) → holds (now (self .exit)) k ≡ holds (now (self .entry)) k) ⌝ }
     {
-        self.heights[64 * at.chunk().slot() + at.place()] = number;
+        let index = index(at);
+        self.heights[index] = number;
     }
 
     // Writes the address of a chunk whose numbers are there.
