@@ -1,6 +1,6 @@
 -- A square is exactly the cells within its radius, each once, in reading order. Assumes nothing.
-use Prim.Native.Nat.{ℕ, zero, suc, _+_, _*_, _/_, _%_, _≤_, _<_}
-use mathlib.Core.Path.{_≡_, sym, ap, subst}
+use Prim.Native.Nat.{ℕ, _+_, _*_, _/_, _%_, _≤_, _<_}
+use mathlib.Core.Path.{_≡_, ap, subst}
 use mathlib.Core.List.{map}
 use mathlib.Core.Logic.{_⊎_, inl, inr, ⊎-elim}
 use native.Mathlib.Omega.{arith}
@@ -12,26 +12,10 @@ use Rattle.std.proofs.shelf.Counted.{getD-map-counting, length-map-counting}
 use Rattle.std.proofs.shelf.Signed.{ints}
 use Rattle.std.proofs.shelf.Tests.{cases-eq}
 use Rattle.grid.specs.declared.cell.Cell.{Cell}
-use Rattle.grid.specs.Counts.{Among, Once}
+use Rattle.grid.specs.Counts.{Among}
 use Rattle.grid.specs.Piles.{Squares, area, north-west, nth-cell, side, square}
 use Rattle.grid.specs.Places.{Before, cell-at, distance}
-
--- ---- the values of a function at the numbers from a on
-
-module _ {X : Type 0} (f : ℕ → X) where
-  -- the number of what stands in the list
-  numbered : (a n : ℕ) (x : X) → Among (map f (counting a n)) x → (i : ℕ) × (a ≤ i) × (i < a + n) × (f i ≡ x)
-  numbered a zero x m = elim m [ ]
-  numbered a (suc n) x (inl e) = (a, omega arith, omega arith, e)
-  numbered a (suc n) x (inr m) = let r = numbered (a + 1) n x m in (r .0, omega (arith, r .1), omega (arith, r .2), r .3)
-
-  among : (a n i : ℕ) → a ≤ i → i < a + n → Among (map f (counting a n)) (f i)
-  among a zero i l h = let z : ⊥ = omega arith in absurd z
-  among a (suc n) i l h = ⊎-elim (λ e. inl (ap f (sym e))) (λ ne. inr (among (a + 1) n i (omega arith) (omega arith))) (cases-eq i a)
-
-  once : ((i j : ℕ) → i < j → f i ≡ f j → ⊥) → (a n : ℕ) → Once (map f (counting a n))
-  once differ a zero = tt
-  once differ a (suc n) = (λ m. let r = numbered (a + 1) n (f a) m in differ a (r .0) (omega (arith, r .1)) (sym (r .3)), once differ (a + 1) n)
+use Rattle.grid.proofs.Counting.{among, numbered, once}
 
 -- ---- one coordinate
 
@@ -101,6 +85,6 @@ squares r c =
     record {
       within = λ d m. let k = numbered f 0 n d m in subst (λ e. distance c e ≤ r) (k .3) (nth-near r c (k .0) (omega (arith, k .2)));
       all = λ d h. let k = found r c d h in subst (Among (map f (counting 0 n))) (k .2) (among f 0 n (k .0) (omega arith) (omega (arith, k .1)));
-      once = once f (λ i j l. apart (f i) (f j) (nth-ordered r c i j l)) 0 n;
+      once = once f 0 n (λ i j l _. apart (f i) (f j) (nth-ordered r c i j l));
       ordered = λ i j d l h. let k : j < n = omega (arith, length-map-counting f 0 n) in rw (at r c i d (omega arith), at r c j d k) (nth-ordered r c i j l);
     }
