@@ -1,6 +1,7 @@
 // Asking a field through a chunk table.
 ghost use mathlib.Core.Path.{_≡_};
 ghost use mathlib.Core.Bool.{false, not, true};
+ghost use Rattle.std.specs.Orderings.{Decides};
 ghost use Rattle.grid.specs.Places.{chunk-of, inside, slot-of};
 ghost use Rattle.grid.specs.declared.cell.Cell.{Cell};
 ghost use Rattle.grid.specs.declared.chunk.Chunk.{Chunk};
@@ -18,6 +19,12 @@ fn number(answer: Result<u16, Blank>) -> u16
         Ok(height) => height,
         Err(_) => MARK,
     }
+}
+
+fn is_mark(number: u16) -> bool
+    ensures { λ r. ⌜ Decides r (number ≡ 65535) ⌝ }
+{
+    number == MARK
 }
 
 // Asks all 64 cells of the chunk in which this cell lies, and overwrites its slot.
@@ -70,7 +77,7 @@ pub fn ask_through<F: Field>(below: &mut F, table: &mut Table, at: Cell) -> Resu
     }
     let _ = hold(below, table, at);
     let number = table.get(at);
-    if number == MARK {
+    if is_mark(number) {
         return below.ask(at);
     }
     Ok(number)

@@ -1,6 +1,6 @@
 // The cells and the chunks of a window.
 ghost use mathlib.Core.Path.{_≡_};
-ghost use Prim.Native.Nat.{_+_, _/_};
+ghost use Prim.Native.Nat.{ℕ, _+_, _/_};
 ghost use Rattle.grid.specs.Counts.{Counts};
 ghost use Rattle.grid.specs.Places.{rest};
 ghost use Rattle.grid.specs.Windows.{Touches, cell-if-any};
@@ -28,7 +28,8 @@ impl Window {
 
     // How many chunks the window's cells lie in.
     pub fn chunk_count(&self) -> u32
-        ensures { λ r. ⌜ Counts r (Touches (now (self .entry))) ⌝ }
+        ensures counted { λ r. ⌜ Counts r (Touches (now (self .entry))) ⌝ }
+        ensures only { λ r. ⌜ ((n : ℕ) → Counts n (Touches (now (self .entry))) → n ≡ r) ⌝ }
     {
         chunks_along(self.corner.y, self.height) * chunks_along(self.corner.x, self.width)
     }

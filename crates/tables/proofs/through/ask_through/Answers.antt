@@ -1,6 +1,6 @@
 use mathlib.Core.Path.{_≡_, refl, sym, ap, _∙_}
 use mathlib.Core.Bool.{false, true}
-use Rattle.std.proofs.shelf.Tests.{false≢true}
+use Rattle.std.proofs.shelf.Tests.{both-ways, false≢true}
 use Rattle.std.specs.declared.result.Result.the-variants.{Err}
 use Rattle.grid.specs.Meanings.{Meaning}
 use Rattle.tables.specs.declared.table.Table.{Table}
@@ -14,7 +14,7 @@ returns g c =
     let t' = c .hold .last .table in
     let inner = sym (c .if-not-is-inside .ensures tt) in
     record {
-      answer = λ o r. answered (g .F·Field .meaning (c .args .below .now)) (c .args .at) t t' (c .get-number .result) (c .hold .ensures .held) (c .hold .ensures .right o r) (c .get-number .ensures) (c .if-number .left);
+      answer = λ o r. answered (g .F·Field .meaning (c .args .below .now)) (c .args .at) t t' (c .get-number .result) (c .hold .ensures .held) (c .hold .ensures .right o r) (c .get-number .ensures) (λ e. both-ways _ (c .if-is-mark .left) (c .is-mark .ensures .1 e));
       same = c .hold .ensures .same;
       order = c .hold .ensures .order;
       held = touched (c .args .at) t t' inner (c .hold .ensures .held);
@@ -25,8 +25,8 @@ returns g c =
       hit = λ k _. c .hold .ensures .stays k .0;
     }
 
-pub returns-then-number : need.returns-then-number
-returns-then-number g c =
+pub returns-then-is-mark : need.returns-then-is-mark
+returns-then-is-mark g c =
     let t = c .args .table .now in
     let t' = c .hold .last .table in
     let inner = sym (c .if-not-is-inside .ensures tt) in
@@ -39,7 +39,7 @@ returns-then-number g c =
       others = c .hold .ensures .others;
       beyond = λ o. absurd (false≢true (sym o ∙ inner));
       kept = λ k. c .hold .ensures .stays k .1;
-      hit = λ k ne. absurd (ne (ap (λ (u : Table). stored u (c .args .at)) (sym (c .hold .ensures .stays k .1)) ∙ sym (c .get-number .ensures) ∙ c .if-number .taken));
+      hit = λ k ne. absurd (ne (ap (λ (u : Table). stored u (c .args .at)) (sym (c .hold .ensures .stays k .1)) ∙ sym (c .get-number .ensures) ∙ c .is-mark .ensures .0 (c .if-is-mark .taken)));
     }
 
 pub returns-then-not-is-inside : need.returns-then-not-is-inside
