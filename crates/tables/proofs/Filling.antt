@@ -80,6 +80,9 @@ Kept k t₀ t = (c : Cell) → (slot-of (chunk-of c) ≡ slot-of k → ⊥) → 
 abbrev pub Put : Cell → ℕ → Table → Table → Type 0
 Put c h t t' = (stored t' c ≡ h) × ((d : Cell) → (index-of d ≡ index-of c → ⊥) → stored t' d ≡ stored t d)
 
+pub index-lt : (c : Cell) → index-of c < 4096
+index-lt c = let s = slot-lt (chunk-of c) in let p = place-lt c in omega arith
+
 index-cell-in : (k : Chunk) (p : ℕ) → p < 64 → index-of (cell-in k p) ≡ 64 * slot-of k + p
 index-cell-in k p h =
     let e : slot-of (chunk-of (cell-in k p)) ≡ slot-of k = ap slot-of (chunk-cell-in k p h) in

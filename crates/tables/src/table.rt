@@ -29,6 +29,7 @@ fn index(at: Cell) -> usize
 impl Table {
     pub fn new() -> Table
         ensures empty { λ r. ⌜ ((k : Chunk) → holds r k ≡ false) ⌝ }
+        ensures marked { λ r. ⌜ ((c : Cell) → stored r c ≡ 65535) ⌝ }
     {
         Table {
             heights: [65_535u16; 4096],
@@ -38,6 +39,7 @@ impl Table {
 
     pub fn clear(&mut self)
         ensures empty { λ _. ⌜ ((k : Chunk) → holds (now (self .exit)) k ≡ false) ⌝ }
+        ensures numbers { λ _. ⌜ ((c : Cell) → stored (now (self .exit)) c ≡ stored (now (self .entry)) c) ⌝ }
     {
         self.chunks = [None; 64];
     }
