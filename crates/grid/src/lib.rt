@@ -1,4 +1,6 @@
 // The endless grid: cells, chunks of 8 by 8 cells, the windows that are drawn, and what a field of heights is.
+#![tactic(auto)]
+
 pub mod blank;
 pub mod cell;
 pub mod chunk;

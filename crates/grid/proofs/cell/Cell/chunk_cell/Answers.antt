@@ -1,4 +1,4 @@
-use Rattle.std.proofs.Common.{◌≡◌, ℕ, ◌/◌, ◌%◌, ℤ, pos, ◌+ℤ◌, ◌*ℤ◌, sym, ap, ◌∙◌, arith, w32, SFits, rules}
+use Rattle.std.proofs.Common.{◌≡◌, ℕ, ◌/◌, ◌%◌, pos, ◌+ℤ◌, ◌*ℤ◌, ap, ◌∙◌, w32, SFits, rules}
 use Rattle.std.proofs.lemmas.Int.{to_z-of_z}
 use Rattle.grid.specs.Places.{eighth}
 use Rattle.grid.proofs.Chunks.{cell_eq, places}
@@ -13,6 +13,6 @@ returns c =
     let y-fits : SFits w32 y = search rules in
     let column = (places p).0 in
     let row = (places p).1 in
-    let east : c.of-chunk.result ≡ (pos 8 *ℤ eighth x) +ℤ pos (p % 64 % 8) = (simp to_z-of_z at c.of-chunk.ensures) ∙ ap (λ (k : ℕ). (pos 8 *ℤ eighth x) +ℤ pos k) column in
-    let south : c.of-chunk-2.result ≡ (pos 8 *ℤ eighth y) +ℤ pos (p % 64 / 8) = (simp to_z-of_z at c.of-chunk-2.ensures) ∙ ap (λ (k : ℕ). (pos 8 *ℤ eighth y) +ℤ pos k) row in
-    cell_eq (to_z-of_z w32 c.of-chunk.result (search rules) ∙ east) (to_z-of_z w32 c.of-chunk-2.result (search rules) ∙ south)
+    let east : c.of_chunk.result ≡ (pos 8 *ℤ eighth x) +ℤ pos (p % 64 % 8) = (simp to_z-of_z at c.of_chunk.ensures) ∙ ap (λ (k : ℕ). (pos 8 *ℤ eighth x) +ℤ pos k) column in
+    let south : c.of_chunk-2.result ≡ (pos 8 *ℤ eighth y) +ℤ pos (p % 64 / 8) = (simp to_z-of_z at c.of_chunk-2.ensures) ∙ ap (λ (k : ℕ). (pos 8 *ℤ eighth y) +ℤ pos k) row in
+    cell_eq (to_z-of_z w32 c.of_chunk.result (search rules) ∙ east) (to_z-of_z w32 c.of_chunk-2.result (search rules) ∙ south)

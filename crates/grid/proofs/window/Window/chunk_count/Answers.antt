@@ -11,7 +11,7 @@ returns c =
     let v = c.args.self.now in
     let fx : SFits w32 v.corner.x = search rules in
     let fy : SFits w32 v.corner.y = search rules in
-    let down : c.chunks-along.result ≡ rows v = simp to_z-of_z at c.chunks-along.ensures in
-    let along : c.chunks-along-2.result ≡ columns v = simp to_z-of_z at c.chunks-along-2.ensures in
+    let down : c.chunks_along.result ≡ rows v = simp to_z-of_z at c.chunks_along.ensures in
+    let along : c.chunks_along-2.result ≡ columns v = simp to_z-of_z at c.chunks_along-2.ensures in
     let counted = subst (λ (n : ℕ). Counts n (Touches v)) (λ t. sym down t * sym along t) (counts_chunks v) in
     record { counted = counted; only = λ n c. one_count (Touches v) n _ c counted }
