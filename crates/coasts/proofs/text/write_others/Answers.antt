@@ -8,7 +8,7 @@ pub loop-height-preserved : goal.loop-height-preserved
 loop-height-preserved c =
     let hs = c.args.heights.now in
     let i = c.loop-height.height-index in
-    c.in-ok-write.ensures.bytes
+    c.in_ok-write.ensures.bytes
     ∙ ap (λ (t : List ℕ). t ++ (32 ∷ decimal (get_or hs i 0))) c.loop-height.invariant
     ∙ spaced_more (string_bytes c.args.text.now) hs i c.loop-height-test.true
 

@@ -4,8 +4,8 @@ use Rattle.std.proofs.lemmas.Bool.{both_ways}
 use Rattle.request.specs.Decimals.{one_number}
 use Rattle.request.proofs.values.negative.Goals as goal
 
-pub returns-then-not-can-be-negated : goal.returns-then-not-can-be-negated
-returns-then-not-can-be-negated c = λ z fits e.
-    let was = c.in-ok-n.ensures in
-    let same = one_number c.args.digits.now c.in-ok-n.n (nat_abs z) was.0 (omega (arith, ints, fits.0, fits.1)) was.1 e in
-    both_ways _ c.if-not-can-be-negated.true (c.can-be-negated.ensures.1 (omega (arith, ints, fits.1), omega (arith, ints, fits.0)))
+pub returns-then-not-can_be_negated : goal.returns-then-not-can_be_negated
+returns-then-not-can_be_negated c = λ z fits e.
+    let was = c.in_ok-n.ensures in
+    let same = one_number c.args.digits.now c.in_ok-n.n (nat_abs z) was.0 (omega (arith, ints, fits.0, fits.1)) was.1 e in
+    both_ways _ c.if-not-can_be_negated.true (c.can_be_negated.ensures.1 (omega (arith, ints, fits.1), omega (arith, ints, fits.0)))

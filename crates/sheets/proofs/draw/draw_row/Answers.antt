@@ -38,7 +38,7 @@ loop-column-preserved g c = λ o.
     let within : c.loop-column.column < width_of v = search rules in (
       c.ask.ensures.order i.0,
       c.ask.ensures.same i.0 ∙ i.1,
-      subst (Found m (λ k. cell_of v k j) (width_of v) (c.loop-column.column + 1)) (sym c.in-ok-push.ensures.items)
+      subst (Found m (λ k. cell_of v k j) (width_of v) (c.loop-column.column + 1)) (sym c.in_ok-push.ensures.items)
           (found_more m (λ k. cell_of v k j) (width_of v) c.loop-column.column _ c.in-Ok.height within (sym (asked g (goal.at.loop-column-preserved g c).After-ask o) ∙ c.in-Ok.is) i.2),
     )
 

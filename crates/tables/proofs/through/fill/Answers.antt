@@ -17,12 +17,12 @@ loop-place-preserved g c =
     let p = c.loop-place.place in
     let lt : p < 64 = omega arith in
     let whole : p % 64 ≡ p = omega arith in
-    let at : c.chunk-cell-cell.result ≡ cell_in k p = c.chunk-cell-cell.ensures ∙ ap (cell_in k) whole in
+    let at : c.chunk_cell-cell.result ≡ cell_in k p = c.chunk_cell-cell.ensures ∙ ap (cell_in k) whole in
     let put : Put (cell_in k p) h t t' = subst (λ (d : Cell). Put d h t t') at (c.put.ensures.here, c.put.ensures.others) in (
       (λ o.
           let i = c.loop-place.invariant.0 o in
           let said : h ≡ mark (m (cell_in k p)) =
-          c.number.ensures ∙ ap mark (c.ask-answer.ensures.answer i.0 ∙ ap (λ (f : Meaning). f c.chunk-cell-cell.result) i.1 ∙ ap m at) in
+          c.number.ensures ∙ ap mark (c.ask-answer.ensures.answer i.0 ∙ ap (λ (f : Meaning). f c.chunk_cell-cell.result) i.1 ∙ ap m at) in
           (c.ask-answer.ensures.order i.0, c.ask-answer.ensures.same i.0 ∙ i.1, filled_more m k p h t t' lt put said i.2)),
       (λ j. c.put.ensures.held j ∙ c.loop-place.invariant.1 j),
       kept_more k p h c.args.table.now t t' lt put c.loop-place.invariant.2,

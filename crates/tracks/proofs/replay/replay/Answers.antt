@@ -9,7 +9,7 @@ use Rattle.tracks.proofs.Fairness.{fair_none}
 use Rattle.tracks.proofs.Standing.{faithful}
 use Rattle.tracks.proofs.Tellings.{runs_more}
 use Rattle.tracks.proofs.replay.replay.Goals as goal
-use Rattle.tracks.proofs.replay.replay.Goals.{then-loop-done-test+else-is-ok, else-loop-done-test}
+use Rattle.tracks.proofs.replay.replay.Goals.{then-loop-done-test+else-is_ok, else-loop-done-test}
 
 pub loop-done-preserved : goal.loop-done-preserved
 loop-done-preserved g c =
@@ -39,7 +39,7 @@ returns g c =
     let inv = c.loop-done.invariant in
     let m = g.F.Field.meaning c.args.field in
     let same : vec_items c.loop-done.journal ≡ vec_items c.loop-done-test.journal = elim c.loop-done-test.branch [
-      | then-loop-done-test+else-is-ok w ↦ sym (ap vec_items w.journal-is ∙ w.reserve.ensures.items)
+      | then-loop-done-test+else-is_ok w ↦ sym (ap vec_items w.journal-is ∙ w.reserve.ensures.items)
       | else-loop-done-test w ↦ sym (ap vec_items w.journal-is)
     ] in
     record {
@@ -49,9 +49,9 @@ returns g c =
           (faithful g.F.Field.meaning g.F.Field.ordered m (take c.loop-done.done c.args.calls.now) c.loop-done.phase (vec_items c.loop-done.journal) so.0 so.1);
       done = inv.0;
       whole = λ room. elim c.loop-done-test.branch [
-        | then-loop-done-test+else-is-ok w ↦
+        | then-loop-done-test+else-is_ok w ↦
             let enough : vec_len c.loop-done.journal + 58 ≤ vec_capacity c.loop-done.journal = omega (arith, inv.1, inv.2, room, c.clear.ensures.capacity, w.loop-done-test.true) in
-            absurd (both_ways _ w.if-is-ok.false (w.is-ok.ensures.value ∙ w.reserve.ensures.succeeds enough))
+            absurd (both_ways _ w.if-is_ok.false (w.is_ok.ensures.value ∙ w.reserve.ensures.succeeds enough))
         | else-loop-done-test w ↦ omega (arith, inv.0, w.loop-done-test.false)
       ];
     }

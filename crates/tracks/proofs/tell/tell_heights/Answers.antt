@@ -11,9 +11,9 @@ loop-column-preserved c =
     let i = c.loop-column.column in
     let within : i < length hs = c.loop-column-test.true in
     let here = the_cell v i j c.in-Some.at (omega (arith, c.requires.1.0)) c.requires.0 c.in-Some.ensures in (
-      c.push-reserved.ensures.len ∙ omega (arith, c.loop-column.invariant.0),
-      c.push-reserved.ensures.capacity ∙ c.loop-column.invariant.1,
-      tells_more v j hs (vec_items c.args.journal.now) i _ c.in-Some.at (vec_items c.loop-column.journal) _ within refl here c.loop-column.invariant.2 c.push-reserved.ensures.items,
+      c.push_reserved.ensures.len ∙ omega (arith, c.loop-column.invariant.0),
+      c.push_reserved.ensures.capacity ∙ c.loop-column.invariant.1,
+      tells_more v j hs (vec_items c.args.journal.now) i _ c.in-Some.at (vec_items c.loop-column.journal) _ within refl here c.loop-column.invariant.2 c.push_reserved.ensures.items,
     )
 
 pub returns : goal.returns

@@ -12,10 +12,10 @@ returns-in-Ok c =
     let n : ℕ = c.from-width.result - 0 in
     let whole : n ≡ width_of v = omega (arith, c.from-width.ensures, c.width.ensures) in
     record {
-      told = wrote v c.args.row out (vec_items c.args.journal.now) (vec_items c.tell-heights.new.journal) _ c.args.answer c.requires.0
-          c.in-Ok.field-0 n c.in-Ok.is whole c.tell-heights.ensures.told c.push-reserved.ensures.items;
-      len = omega (arith, c.push-reserved.ensures.len, c.tell-heights.ensures.len, front_few n out, v.wide.1);
-      capacity = c.push-reserved.ensures.capacity ∙ c.tell-heights.ensures.capacity;
+      told = wrote v c.args.row out (vec_items c.args.journal.now) (vec_items c.tell_heights.new.journal) _ c.args.answer c.requires.0
+          c.in-Ok.field-0 n c.in-Ok.is whole c.tell_heights.ensures.told c.push_reserved.ensures.items;
+      len = omega (arith, c.push_reserved.ensures.len, c.tell_heights.ensures.len, front_few n out, v.wide.1);
+      capacity = c.push_reserved.ensures.capacity ∙ c.tell_heights.ensures.capacity;
     }
 
 pub returns-in-Err-Blank : goal.returns-in-Err-Blank
@@ -28,8 +28,8 @@ returns-in-Err-Blank c =
     let is : c.args.answer ≡ Err (Blank f) = search rules in
     let within = (blank_at v c.args.row (length out) c.args.answer f is c.requires.0).0 in
     record {
-      told = blank v c.args.row out (vec_items c.args.journal.now) (vec_items c.tell-heights-in-Err-Blank.new.journal) _ c.args.answer c.requires.0
-          f n is before c.tell-heights-in-Err-Blank.ensures.told c.push-reserved-in-Err-Blank.ensures.items;
-      len = omega (arith, c.push-reserved-in-Err-Blank.ensures.len, c.tell-heights-in-Err-Blank.ensures.len, front_few n out, v.wide.1);
-      capacity = c.push-reserved-in-Err-Blank.ensures.capacity ∙ c.tell-heights-in-Err-Blank.ensures.capacity;
+      told = blank v c.args.row out (vec_items c.args.journal.now) (vec_items c.tell_heights-in-Err-Blank.new.journal) _ c.args.answer c.requires.0
+          f n is before c.tell_heights-in-Err-Blank.ensures.told c.push_reserved-in-Err-Blank.ensures.items;
+      len = omega (arith, c.push_reserved-in-Err-Blank.ensures.len, c.tell_heights-in-Err-Blank.ensures.len, front_few n out, v.wide.1);
+      capacity = c.push_reserved-in-Err-Blank.ensures.capacity ∙ c.tell_heights-in-Err-Blank.ensures.capacity;
     }

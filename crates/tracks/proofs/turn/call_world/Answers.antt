@@ -16,10 +16,10 @@ returns-in-Look g c = λ m j s.
     let at = c.in-Look.at in
     let fits = s.0 in
     let answer = c.look-answer.ensures.answer fits.order ∙ ap (λ (n : Meaning). looked at (n at)) fits.means in
-    let told : c.looked-at.result ≡ Asked at (m at) = c.looked-at.ensures (m at) answer in (
-      c.looked-at.result ∷ [],
+    let told : c.looked_at.result ≡ Asked at (m at) = c.looked_at.ensures (m at) answer in (
+      c.looked_at.result ∷ [],
       refl,
-      subst (λ (k : Call). Does m alone k (c.looked-at.result ∷ []) alone) (sym c.in-Look.is) (ap (λ (e : Event). e ∷ []) told, refl),
+      subst (λ (k : Call). Does m alone k (c.looked_at.result ∷ []) alone) (sym c.in-Look.is) (ap (λ (e : Event). e ∷ []) told, refl),
       subst (λ (e : Event). Sound g.F.Field.meaning g.F.Field.ordered m (Alone c.look-answer.new.self) (j ++ e ∷ [])) (sym told)
           (sound_alone g.F.Field.meaning g.F.Field.ordered m c.look-answer.new.self j (Asked at (m at)) (λ ends. ends) (c.look-answer.ensures.history m j fits) s.1),
     )

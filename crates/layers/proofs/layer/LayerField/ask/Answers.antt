@@ -8,9 +8,9 @@ use Rattle.layers.proofs.layer.LayerField.ask.Given as given
 use Rattle.layers.proofs.layer.LayerField.ask.Goals as goal
 use Rattle.layers.proofs.layer.LayerField.ask.Goals.{else-search-test, then-search-test+then-loop-column-test+in-Err}
 
-pub returns-then-not-is-inside : goal.returns-then-not-is-inside
-returns-then-not-is-inside g c =
-    let e = step_beyond (g.R.Rule.stencil c.args.self.now.rule) (g.F.Field.meaning c.args.self.now.below) c.args.at (sym c.if-not-is-inside.ensures) in
+pub returns-then-not-is_inside : goal.returns-then-not-is_inside
+returns-then-not-is_inside g c =
+    let e = step_beyond (g.R.Rule.stencil c.args.self.now.rule) (g.F.Field.meaning c.args.self.now.below) c.args.at (sym c.if-not-is_inside.ensures) in
     record { answer = λ o. cc; same = λ o. refl; order = λ o. o }
 
 pub bounds-square-count : goal.bounds-square-count
@@ -33,7 +33,7 @@ loop-column-preserved g c =
           let k = i.4 o in
           let a = c.in-Ok.ensures in
           let m = g.F.Field.meaning c.search.self.below in
-          let told = heard (g.F.Field.meaning c.loop-column.self.below) m r c.args.at c.loop-column.column c.search.row c.loop-column.count c.square-cell.result (Ok c.in-Ok.height) k.1 (omega arith) i.3 c.square-cell.ensures (a.answer k.0) in
+          let told = heard (g.F.Field.meaning c.loop-column.self.below) m r c.args.at c.loop-column.column c.search.row c.loop-column.count c.square_cell.result (Ok c.in-Ok.height) k.1 (omega arith) i.3 c.square_cell.ensures (a.answer k.0) in
           (a.order k.0, a.same k.0 ∙ k.1, λ w. walked_more m r c.args.at c.loop-column.count c.loop-column.square c.in-Ok.height l (k.2 w) told),
     )
 
@@ -62,9 +62,9 @@ returns-in-Some g c = elim c.search-test.branch [
             let p = i.4 o in
             let q = j.4 p.0 in
             let walked = walked_on (g.F.Field.meaning c.search.self.below) m r c.args.at c.search.count w.loop-column.count c.search.square w.loop-column.square p.1 q.2 p.2 in
-            let told = heard (g.F.Field.meaning w.loop-column.self.below) m r c.args.at w.loop-column.column c.search.row w.loop-column.count w.square-cell.result (Err w.in-Err.found) (q.1 ∙ p.1) w.loop-column-test.true j.3 w.square-cell.ensures (a.answer q.0) in
+            let told = heard (g.F.Field.meaning w.loop-column.self.below) m r c.args.at w.loop-column.column c.search.row w.loop-column.count w.square_cell.result (Err w.in-Err.found) (q.1 ∙ p.1) w.loop-column-test.true j.3 w.square_cell.ensures (a.answer q.0) in
             let below = count_below r w.loop-column.column c.search.row w.loop-column.count w.loop-column-test.true w.search-test.true j.3 in
-            let blank = answers_blank s m c.args.at (sym c.if-not-is-inside.ensures) r c.radius-radius.ensures w.loop-column.count w.loop-column.square w.in-Err.found below walked told in
+            let blank = answers_blank s m c.args.at (sym c.if-not-is_inside.ensures) r c.radius-radius.ensures w.loop-column.count w.loop-column.square w.in-Err.found below walked told in
             let same = same_some c.search-test.blank c.in-Some.found w.in-Err.found c.in-Some.is w.blank-is in
             ap Err (c.raise.ensures ∙ ap risen same) ∙ sym blank;
         same = λ o.
@@ -93,7 +93,7 @@ returns-in-None g c = elim c.search-test.branch [
         answer = λ o.
             let long : length front ≡ n = front_length c.search-test.square n (ap length w.square-is ∙ i.2) (omega (arith, area_most r near)) in
             let walked = walked_front m r c.args.at n c.search.count c.search-test.square c.search.square w.count-is w.square-is (i.4 o).2 in
-            answers_height s m c.args.at (sym c.if-not-is-inside.ensures) r c.radius-radius.ensures n front c.answer.result full long (g.F.Field.lawful c.args.self.now.below o) walked
+            answers_height s m c.args.at (sym c.if-not-is_inside.ensures) r c.radius-radius.ensures n front c.answer.result full long (g.F.Field.lawful c.args.self.now.below o) walked
             (subst (λ q. Whole (g.R.Rule.stencil q).radius front → c.answer.result ≡ (g.R.Rule.stencil q).value front) rule c.answer.ensures);
         same = λ o.
             same_layer g.R.Rule.stencil c.search-test.self.rule c.args.self.now.rule (g.F.Field.meaning c.search-test.self.below) m rule

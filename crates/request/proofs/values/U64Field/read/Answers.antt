@@ -4,11 +4,11 @@ use Rattle.request.specs.Decimals.{DigitsSoFar, no_empty, no_lead, no_other, no_
 use Rattle.request.proofs.values.U64Field.read.Goals as goal
 use Rattle.request.proofs.values.U64Field.read.Goals.{After-from-digit, then-b-lt48-via-then-b-lt48, then-b-lt48-via-else-b-lt48+then-b-gt57}
 
-pub returns-then-is-empty : goal.returns-then-is-empty
-returns-then-is-empty c = λ v h e. no_empty v c.args.bytes.now h e (search rules)
+pub returns-then-is_empty : goal.returns-then-is_empty
+returns-then-is_empty c = λ v h e. no_empty v c.args.bytes.now h e (search rules)
 
-pub returns-then-has-leading-zero : goal.returns-then-has-leading-zero
-returns-then-has-leading-zero c = λ v h e. let lead = c.has-leading-zero.ensures.0 c.if-has-leading-zero.true in no_lead v c.args.bytes.now h e lead.1 lead.0
+pub returns-then-has_leading_zero : goal.returns-then-has_leading_zero
+returns-then-has_leading_zero c = λ v h e. let lead = c.has_leading_zero.ensures.0 c.if-has_leading_zero.true in no_lead v c.args.bytes.now h e lead.1 lead.0
 
 pub returns-then-b-lt48 : goal.returns-then-b-lt48
 returns-then-b-lt48 c = λ v h e.
@@ -35,5 +35,5 @@ returns c =
     let bs = c.args.bytes.now in
     let some : 0 < length bs = search rules in
     let lead : get_or bs 0 0 ≡ 48 → length bs ≡ 1 = λ z.
-    elim (cases_lt 1 (length bs)) [ inl more ↦ absurd (both_ways _ c.if-has-leading-zero.false (c.has-leading-zero.ensures.1 (more, z))) | inr one ↦ omega (arith, one) ] in
+    elim (cases_lt 1 (length bs)) [ inl more ↦ absurd (both_ways _ c.if-has_leading_zero.false (c.has_leading_zero.ensures.1 (more, z))) | inr one ↦ omega (arith, one) ] in
     (c.loop-b.invariant.1, whole_text bs c.loop-b.b-index c.loop-b.n (omega arith) some lead c.loop-b.invariant.1 c.loop-b.invariant.0)

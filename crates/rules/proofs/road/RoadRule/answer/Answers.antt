@@ -4,10 +4,10 @@ use Rattle.rules.specs.Roads.{has_road}
 use Rattle.rules.proofs.Roading.{no_road_found, road_found}
 use Rattle.rules.proofs.road.RoadRule.answer.Goals as goal
 
-pub returns-then-has-road-from : goal.returns-then-has-road-from
-returns-then-has-road-from c w =
+pub returns-then-has_road_from : goal.returns-then-has_road_from
+returns-then-has_road_from c w =
     let hs = c.args.square.now in
-    sym (cond-true (has_road hs) 1 0 (road_found hs c.loop-a.a (omega arith) c.if-square-a-ne0.true (sym c.if-has-road-from.ensures)))
+    sym (cond-true (has_road hs) 1 0 (road_found hs c.loop-a.a (omega arith) c.if-square-a-ne0.true (sym c.if-has_road_from.ensures)))
 
 pub returns : goal.returns
 returns c w =

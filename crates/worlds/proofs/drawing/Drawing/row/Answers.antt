@@ -9,12 +9,12 @@ returns-then-self-height g c = told_full g.F.Field.meaning g.F.Field.ordered c.a
 pub returns-then-out-from : goal.returns-then-out-from
 returns-then-out-from g c = told_short g.F.Field.meaning g.F.Field.ordered c.args.self.now c.args.out.now (omega arith) (omega arith)
 
-pub returns-in-err-write : goal.returns-in-err-write
-returns-in-err-write g c =
-    let x = c.in-err-write.field-0.0 in
-    told_blank g.F.Field.meaning g.F.Field.ordered c.args.self.now c.args.out.now c.from-residual.result x c.write.new.self c.write.new.out
-    (err_is c.from-residual.result (Blank x) c.from-residual.ensures.1) c.in-err-write.ensures
+pub returns-in_err-write : goal.returns-in_err-write
+returns-in_err-write g c =
+    let x = c.in_err-write.field-0.0 in
+    told_blank g.F.Field.meaning g.F.Field.ordered c.args.self.now c.args.out.now c.from_residual.result x c.write.new.self c.write.new.out
+    (err_is c.from_residual.result (Blank x) c.from_residual.ensures.1) c.in_err-write.ensures
 
 pub returns : goal.returns
 returns g c =
-    told_whole g.F.Field.meaning g.F.Field.ordered c.args.self.now c.args.out.now c.write.new.self c.write.new.out c.in-ok-write.ensures
+    told_whole g.F.Field.meaning g.F.Field.ordered c.args.self.now c.args.out.now c.write.new.self c.write.new.out c.in_ok-write.ensures

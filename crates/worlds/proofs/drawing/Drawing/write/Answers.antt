@@ -11,20 +11,20 @@ unreachable-requires g c =
     let wide : c.loop-column.column < width_of c.args.self.now.window = omega arith in
     way_stuck g.F.Field.meaning g.F.Field.ordered c.loop-column.invariant c.requires.0 wide c.in-default.ensures
 
-pub returns-in-err-out : goal.returns-in-err-out
-returns-in-err-out g c =
+pub returns-in_err-out : goal.returns-in_err-out
+returns-in_err-out g c =
     let wide : c.loop-column.column < width_of c.args.self.now.window = omega arith in
-    let said = c.in-err-out.ensures in
-    let x = c.in-err-out.field-0.0 in
+    let said = c.in_err-out.ensures in
+    let x = c.in_err-out.field-0.0 in
     way_blank g.F.Field.meaning g.F.Field.ordered c.loop-column.invariant c.requires.0 c.ask.new.self c.in-Some.ensures wide c.requires.1 said.next said.goes
-    c.from-residual.result x (err_is c.from-residual.result x c.from-residual.ensures.1) said.answer said.cell
+    c.from_residual.result x (err_is c.from_residual.result x c.from_residual.ensures.1) said.answer said.cell
 
 pub loop-column-preserved : goal.loop-column-preserved
 loop-column-preserved g c =
     let wide : c.loop-column.column < width_of c.args.self.now.window = omega arith in
-    let said = c.in-ok-out.ensures in
+    let said = c.in_ok-out.ensures in
     way_more g.F.Field.meaning g.F.Field.ordered c.loop-column.invariant c.requires.0 c.ask.new.self c.in-Some.ensures wide c.requires.1 said.next said.goes
-    c.from.result c.in-ok-out.field-0 c.from.ensures said.answer
+    c.from.result c.in_ok-out.field-0 c.from.ensures said.answer
 
 pub returns : goal.returns
 returns g c =
