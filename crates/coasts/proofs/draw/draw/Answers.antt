@@ -9,12 +9,12 @@ use Rattle.coasts.proofs.draw.draw.Goals.{After-height-end}
 pub loop-init : goal.loop-init
 loop-init g c = (refl, λ m v begun. begun)
 
-pub slice-bounds-row-end : goal.slice-bounds-row-end
-slice-bounds-row-end g c = sym c.loop.invariant.0
+pub slice_bounds-row-end : goal.slice_bounds-row-end
+slice_bounds-row-end g c = sym c.loop.invariant.0
 
 pub loop-preserved : goal.loop-preserved
 loop-preserved g c =
-    let said = c.in-default.ensures in
+    let said = c.in_default.ensures in
     let p = c.row.new.out in
     let long : length p ≡ 57 = said.past.0 ∙ c.loop.invariant.0 in (
       long,

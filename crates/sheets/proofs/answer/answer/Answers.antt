@@ -39,12 +39,12 @@ unbuilt Heights raw heights = absurd (heights refl)
 unbuilt Sites raw heights = refl
 unbuilt Roads raw heights = refl
 
-pub returns-in-default : goal.returns-in-default
-returns-in-default c = (
+pub returns-in_default : goal.returns-in_default
+returns-in_default c = (
   c.in-Ok.request,
   c.in-Ok-new.window,
   c.in-Ok.ensures,
-  made (goal.at.returns-in-default c).In-Ok-new,
+  made (goal.at.returns-in_default c).In-Ok-new,
   refl,
-  unbuilt _ c.in-default.not-Raw c.in-default.not-Heights,
+  unbuilt _ c.in_default.not-Raw c.in_default.not-Heights,
 )

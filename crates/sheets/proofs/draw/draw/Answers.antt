@@ -6,13 +6,13 @@ use Rattle.sheets.specs.Texts.{row_text}
 use Rattle.sheets.proofs.Rows.{Written, blank_row, went_well, whole_row, written_blank, written_more}
 use Rattle.sheets.proofs.draw.draw.Goals as goal
 
-pub returns-in-default : goal.returns-in-default
-returns-in-default g c = λ o.
+pub returns-in_default : goal.returns-in_default
+returns-in_default g c = λ o.
     let i = c.loop-row.invariant o in
     let v = c.args.window in
     let m = g.F.Field.meaning c.args.field.now in
     let within : c.loop-row.row < height_of v = search rules in
-    let blank = blank_row (g.F.Field.meaning c.loop-row.field) m i.1 (row_cells v c.loop-row.row) vec_items c.in_ok-heights.field-0 (c.in_ok-heights.ensures.row i.0) c.in-default.is in
+    let blank = blank_row (g.F.Field.meaning c.loop-row.field) m i.1 (row_cells v c.loop-row.row) vec_items c.in_ok-heights.field-0 (c.in_ok-heights.ensures.row i.0) c.in_default.is in
     record {
       fills = rows v * columns v;
       counted = counts_chunks v;

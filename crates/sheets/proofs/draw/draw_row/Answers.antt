@@ -15,15 +15,15 @@ asked g c o =
     ∙ ap (λ (m : Meaning). m c.in-Some.at) i.1
     ∙ ap (g.F.Field.meaning c.args.field.now) (the_cell c.args.window c.loop-column.column c.args.row _ within c.requires c.in-Some.ensures)
 
-pub returns-in-default-ask : goal.returns-in-default-ask
-returns-in-default-ask g c =
+pub returns-in_default-ask : goal.returns-in_default-ask
+returns-in_default-ask g c =
     let v = c.args.window in
     let within : c.loop-column.column < width_of v = search rules in
     record {
       row = λ o. (
-        c.in-default-ask.field-0,
-        found_blank (g.F.Field.meaning c.args.field.now) (λ k. cell_of v k c.args.row) (width_of v) c.loop-column.column _ c.in-default-ask.field-0 within
-            (sym (asked g (goal.at.returns-in-default-ask g c).After-ask o) ∙ c.in-default-ask.is) (c.loop-column.invariant o).2,
+        c.in_default-ask.field-0,
+        found_blank (g.F.Field.meaning c.args.field.now) (λ k. cell_of v k c.args.row) (width_of v) c.loop-column.column _ c.in_default-ask.field-0 within
+            (sym (asked g (goal.at.returns-in_default-ask g c).After-ask o) ∙ c.in_default-ask.is) (c.loop-column.invariant o).2,
       );
       same = λ o. let i = c.loop-column.invariant o in c.ask.ensures.same i.0 ∙ i.1;
       order = λ o. c.ask.ensures.order (c.loop-column.invariant o).0;

@@ -37,8 +37,8 @@ loop-column-preserved g c =
           (a.order k.0, a.same k.0 ∙ k.1, λ w. walked_more m r c.args.at c.loop-column.count c.loop-column.square c.in-Ok.height l (k.2 w) told),
     )
 
-pub slice-bounds-answer-end : goal.slice-bounds-answer-end
-slice-bounds-answer-end g c =
+pub slice_bounds-answer-end : goal.slice_bounds-answer-end
+slice_bounds-answer-end g c =
     let r = c.radius-radius.result in
     let near : r ≤ 11 = omega (arith, (g.R.Rule.fit c.args.self.now.rule).near) in
     let b : c.search-test.count ≤ 529 = elim c.search-test.branch [

@@ -9,7 +9,7 @@ loop-column-init g c = way_none g.F.Field.meaning g.F.Field.ordered c.args.self.
 pub unreachable-requires : goal.unreachable-requires
 unreachable-requires g c =
     let wide : c.loop-column.column < width_of c.args.self.now.window = omega arith in
-    way_stuck g.F.Field.meaning g.F.Field.ordered c.loop-column.invariant c.requires.0 wide c.in-default.ensures
+    way_stuck g.F.Field.meaning g.F.Field.ordered c.loop-column.invariant c.requires.0 wide c.in_default.ensures
 
 pub returns-in_err-out : goal.returns-in_err-out
 returns-in_err-out g c =
