@@ -22,12 +22,12 @@ pub(crate) fn draw<F: Field + Drop>(
     let width = usize::from(window.width());
     for _ in 0..window.height() {
         if let Err(refusal) = drawing.row(&mut heights) {
-            write_refusal(&mut text, refusal.number()).or(Err(AllocError))?;
+            write_refusal(&mut text, refusal.number())?;
             return Ok(text);
         }
-        write_row(&mut text, &heights[0..width]).or(Err(AllocError))?;
+        write_row(&mut text, &heights[0..width])?;
     }
     let (_, fills) = drawing.finish();
-    write_fills(&mut text, fills).or(Err(AllocError))?;
+    write_fills(&mut text, fills)?;
     Ok(text)
 }

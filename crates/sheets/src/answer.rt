@@ -16,7 +16,7 @@ fn refusal_line(heap: Global, number: u8) -> Result<String, AllocError>
     ensures { IfOk result (λ t. string_bytes t ≡ refusal_text number) }
 {
     let mut text = String::new(heap);
-    write_refusal(&mut text, number).or(Err(AllocError))?;
+    write_refusal(&mut text, number)?;
     Ok(text)
 }
 

@@ -48,11 +48,11 @@ pub(crate) fn draw<F: Field>(
     let mut text = String::new(heap);
     for row in 0..window.height() {
         let Some(heights) = draw_row(heap, field, window, row)? else {
-            write_refusal(&mut text, BLANK_REFUSAL).or(Err(AllocError))?;
+            write_refusal(&mut text, BLANK_REFUSAL)?;
             return Ok(text);
         };
-        write_row(&mut text, heights.as_slice()).or(Err(AllocError))?;
+        write_row(&mut text, heights.as_slice())?;
     }
-    write_fills(&mut text, window.chunk_count()).or(Err(AllocError))?;
+    write_fills(&mut text, window.chunk_count())?;
     Ok(text)
 }

@@ -2,10 +2,10 @@
 ghost use Rattle.std.specs.Prelude.{◌≡◌, ◌++◌, string_bytes, OnOk};
 ghost use Rattle.sheets.specs.Texts.{fills_text, refusal_text, row_text, spaced};
 
-use std::fmt;
+use std::alloc::AllocError;
 
 // Each height after a space.
-fn write_others(text: &mut String, heights: &[u16]) -> fmt::Result
+fn write_others(text: &mut String, heights: &[u16]) -> Result<(), AllocError>
     ensures { OnOk result (string_bytes text.new ≡ string_bytes text.old ++ spaced heights.now) }
 {
     for height in heights {
@@ -15,7 +15,7 @@ fn write_others(text: &mut String, heights: &[u16]) -> fmt::Result
 }
 
 // The heights parted by one space.
-pub(crate) fn write_row(text: &mut String, heights: &[u16]) -> fmt::Result
+pub(crate) fn write_row(text: &mut String, heights: &[u16]) -> Result<(), AllocError>
     ensures { OnOk result (string_bytes text.new ≡ string_bytes text.old ++ row_text heights.now) }
 {
     match heights {
@@ -28,13 +28,13 @@ pub(crate) fn write_row(text: &mut String, heights: &[u16]) -> fmt::Result
     }
 }
 
-pub(crate) fn write_fills(text: &mut String, fills: u32) -> fmt::Result
+pub(crate) fn write_fills(text: &mut String, fills: u32) -> Result<(), AllocError>
     ensures { OnOk result (string_bytes text.new ≡ string_bytes text.old ++ fills_text fills) }
 {
     writeln!(text, "fills {fills}")
 }
 
-pub(crate) fn write_refusal(text: &mut String, number: u8) -> fmt::Result
+pub(crate) fn write_refusal(text: &mut String, number: u8) -> Result<(), AllocError>
     ensures { OnOk result (string_bytes text.new ≡ string_bytes text.old ++ refusal_text number) }
 {
     writeln!(text, "refused {number}")

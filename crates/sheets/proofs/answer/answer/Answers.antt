@@ -15,20 +15,20 @@ made c =
     let q = c.in-Ok.request in
     subst (λ corner. Makes corner q.width q.height (Ok c.in-Ok-new.window)) c.corner.ensures c.in-Ok-new.ensures
 
-pub returns-in_ok-draw : goal.returns-in_ok-draw
+pub returns-in_ok-draw-in-Raw : goal.returns-in_ok-draw-in-Raw
 unfolding carry
-returns-in_ok-draw c =
+returns-in_ok-draw-in-Raw c =
     let q = c.in-Ok.request in
     let v = c.in-Ok-new.window in (
       Ok q,
       c.in-Ok.ensures,
       (
         Ok v,
-        made (goal.at.returns-in_ok-draw c).In-Ok-new,
+        made (goal.at.returns-in_ok-draw-in-Raw c).In-Ok-new,
         (
           [],
           ap rules_of c.in-Raw.is,
-          subst (λ (s : ℕ). Drawn (noise s) v (string_bytes c.in_ok-draw.field-0)) c.new-in-Raw.ensures (c.in_ok-draw.ensures tt),
+          subst (λ (s : ℕ). Drawn (noise s) v (string_bytes c.in_ok-draw-in-Raw.field-0)) c.new-in-Raw.ensures (c.in_ok-draw-in-Raw.ensures tt),
         ),
       ),
     )

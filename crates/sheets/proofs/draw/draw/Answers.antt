@@ -17,7 +17,7 @@ returns-in_default g c = λ o.
       fills = rows v * columns v;
       counted = counts_chunks v;
       is =
-          went_well c.write_refusal.result _ _ c.in-ok_or.ensures c.write_refusal.ensures
+          c.in_ok-write_refusal.ensures
           ∙ written_blank m v (height_of v) c.loop-row.row (rows v * columns v) _ blank.0 within blank.1 i.2;
     }
 
@@ -29,7 +29,7 @@ loop-row-preserved g c = λ o.
     let within : c.loop-row.row < height_of v = search rules in
     let row = whole_row (g.F.Field.meaning c.loop-row.field) m i.1 (row_cells v c.loop-row.row) vec_items c.in_ok-heights.field-0 (c.in_ok-heights.ensures.row i.0) c.in-Some.heights c.in-Some.is in
     let text : string_bytes c.write_row.new.text ≡ string_bytes c.loop-row.text ++ row_text (vec_items c.in-Some.heights) =
-    went_well c.write_row.result _ _ c.in-ok_or-2.ensures c.write_row.ensures
+    c.in_ok-write_row.ensures
     ∙ ap (λ (hs : List ℕ). string_bytes c.loop-row.text ++ row_text hs) c.as_slice.ensures.value in (
       c.in_ok-heights.ensures.order i.0,
       c.in_ok-heights.ensures.same i.0 ∙ i.1,
