@@ -25,7 +25,7 @@ loop-preserved g c =
           let whole : c.from-width.result - 0 ≡ width_of v = omega (arith, ap width_of window) in
           reached_more _ _ m v c.loop.counter _ _ (c.loop.invariant.1 m v begun) c.row.new.self _ p (string_bytes c.write_row.new.text) high room whole
           said.answer (said.goes m).window said.next (said.history m)
-          (went_well c.write_row.result _ _ c.in-ok_or-2.ensures c.write_row.ensures),
+          c.in_ok-write_row.ensures,
     )
 
 -- the drawing begins on a world of its own
@@ -43,7 +43,7 @@ returns-in-Err g c = λ order.
     let room : width_of v ≤ length c.loop.heights = omega (arith, c.loop.invariant.0) in
     drawn_blank _ _ _ v c.loop.counter _ _ (c.loop.invariant.1 _ v (begun g (goal.at.returns-in-Err g c).After-height-end order))
     c.in-Err.refusal _ c.number.result c.row.new.out (string_bytes c.write_refusal.new.text) high room said.placed said.answer c.number.ensures
-    (went_well c.write_refusal.result _ _ c.in-ok_or.ensures c.write_refusal.ensures)
+    c.in_ok-write_refusal.ensures
 
 pub returns : goal.returns
 returns g c = λ order.
@@ -51,4 +51,4 @@ returns g c = λ order.
     let ended : height_of v ≤ c.loop.counter = omega arith in
     drawn_all _ _ _ v c.loop.counter _ _ (c.loop.invariant.1 _ v (begun g (goal.at.returns g c).After-height-end order))
     c.finish-fills.result.1 (string_bytes c.write_fills.new.text) ended (λ during u. c.finish-fills.ensures.exact _ [] during u)
-    (went_well c.write_fills.result _ _ c.in-ok_or-3.ensures c.write_fills.ensures)
+    c.in_ok-write_fills.ensures
