@@ -1,3 +1,5 @@
+#![tactic(auto)]
+
 // Examples of what the other crates promise, run. They stand in a crate of their own, since a crate with tests is proved twice.
 // Values that no public document gives come from reference/coast.py.
 #[cfg(test)]

@@ -1,5 +1,7 @@
 // drift: asks windows that drift over the kind `heights`, for measuring, and prints what the answers add up to.
 // Nothing is claimed of it beyond that it is safe and ends: the answers are those of the library, and what is printed is compared.
+#![tactic(auto)]
+
 use anyhow::anyhow;
 use grid::blank::Blank;
 use grid::cell::Cell;

@@ -3,7 +3,7 @@
 --     spot x y h          the cell (x, y) with the height h
 --     around r ss c       the heights of the square of radius r around c, where the spots ss have theirs and all else is 0
 --     Examples            what the definitions give, number by number
-use Rattle.std.specs.Prelude.{ℕ, ◌≡◌, Bool, cond, ◌&&◌, List, [], ◌∷◌, map, ℤ, pos, negsuc, replicate}
+use Rattle.std.specs.Prelude.{ℕ, ◌≡◌, cond, ◌&&◌, List, [], ◌∷◌, map, ℤ, pos, negsuc, replicate}
 use Rattle.grid.specs.declared.cell.Cell.{Cell}
 use Rattle.grid.specs.Piles.{square}
 use Rattle.grid.specs.Places.{eq_z}

@@ -1,11 +1,11 @@
 -- The grounds owe what every field owes. Nothing here is a definition that a contract rests on. Assumes nothing.
 use Rattle.std.specs.Prelude.{◌≡◌, ℕ, ◌/◌, ◌%◌, ◌^◌, ◌<◌, ◌≤◌, Bool, true, false, cond, ◌&&◌, Ok, Err, nat_lt, refl}
-use Rattle.std.proofs.Common.{ap, ◌∙◌, subst, arith}
+use Rattle.std.proofs.Common.{ap, subst, arith}
 use Rattle.std.proofs.lemmas.Nat.{xor_lt}
 use Rattle.std.proofs.lemmas.Bool.{and_left, and_parts, ltb-true}
 use Rattle.grid.specs.declared.blank.Blank.{Blank}
 use Rattle.grid.specs.declared.cell.Cell.{Cell}
-use Rattle.grid.specs.Meanings.{Answer, Height, Lawful, own_blank}
+use Rattle.grid.specs.Meanings.{Height, Lawful, own_blank}
 use Rattle.grid.specs.Places.{inside}
 use Rattle.grounds.specs.Constants.{constant}
 use Rattle.grounds.specs.Noises.{noise, noise_height}

@@ -1,3 +1,5 @@
 // Rule layers: a rule on top of any field.
+#![tactic(auto)]
+
 pub mod layer;
 pub mod smoothing;

@@ -1,5 +1,5 @@
 -- A request line, field by field: what was read of a line that a request opens is that request. Assumes nothing.
-use Rattle.std.proofs.Common.{◌≡◌, ℕ, ◌+◌, ◌-◌, ◌^◌, ◌<◌, ◌≤◌, min, List, [], ◌∷◌, ◌++◌, length, take, drop, ℤ, pos, negsuc, Some, None, decimal, Option, Result, sym, refl, ap, ◌∙◌, subst, append_assoc, arith, length-append, take-append-drop, length-take, pow_mono, w32, SFits, rules}
+use Rattle.std.proofs.Common.{◌≡◌, ℕ, ◌-◌, ◌^◌, ◌<◌, ◌≤◌, min, List, ◌∷◌, ◌++◌, length, take, drop, ℤ, pos, negsuc, Some, None, decimal, Option, Result, sym, ap, ◌∙◌, subst, append_assoc, arith, length-append, take-append-drop, length-take, pow_mono, w32, SFits, rules}
 use lib.Seq.{take-append-add}
 use lib.Signed.{mag}
 use Rattle.std.specs.Fmt.{signed_decimal}

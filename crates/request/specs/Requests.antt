@@ -8,7 +8,7 @@
 --     Asks bs q            the same, and the line has at most 80 bytes
 --     ReadingFields bs r  r is the one request with whose line the bytes open, if there is one
 --     Reading bs r         r is the one request for which the bytes ask, or the refusal where there is none
-use Rattle.std.specs.Prelude.{◌≡◌, ℕ, ◌-◌, ◌^◌, ◌<◌, ◌≤◌, List, [], ◌∷◌, ◌++◌, length, ℤ, pos, neg_ℤ, ◌≤ℤ◌, ◌<ℤ◌, Some, None, Ok, Err, codes, decimal, Option, Result}
+use Rattle.std.specs.Prelude.{◌≡◌, ℕ, ◌^◌, ◌<◌, ◌≤◌, List, [], ◌∷◌, ◌++◌, length, ℤ, pos, neg_ℤ, ◌≤ℤ◌, ◌<ℤ◌, Some, None, Ok, Err, codes, decimal, Option, Result}
 use Rattle.std.specs.Fmt.{signed_decimal}
 use Rattle.grid.specs.declared.cell.Cell.{Cell}
 use Rattle.request.specs.declared.Kind.{Kind}

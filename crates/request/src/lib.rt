@@ -1,4 +1,6 @@
 // The request line: what is to be drawn.
+#![tactic(auto)]
+
 ghost use Rattle.std.specs.Prelude.{◌≡◌, Some};
 ghost use Rattle.request.specs.Refusals.{request_refusal};
 ghost use Rattle.request.specs.Requests.{kind_word};

@@ -1,4 +1,6 @@
 // sheet: draws the window that one line of standard input asks for.
+#![tactic(auto)]
+
 ghost use Rattle.std.specs.Prelude.{IfOk};
 ghost use Rattle.sheet.specs.Input.{StopsAtLineFeed};
 

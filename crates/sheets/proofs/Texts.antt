@@ -1,5 +1,5 @@
 -- The text of a row, height by height. Assumes nothing.
-use Rattle.std.proofs.Common.{◌≡◌, ℕ, ◌+◌, ◌-◌, ◌<◌, List, [], ◌∷◌, ◌++◌, length, get_or, take, drop, decimal, sym, refl, ap, ◌∙◌, subst, append_assoc, arith}
+use Rattle.std.proofs.Common.{◌≡◌, ℕ, ◌+◌, ◌-◌, ◌<◌, List, [], ◌∷◌, ◌++◌, length, get_or, take, drop, decimal, sym, refl, ap, ◌∙◌, append_assoc, arith}
 use lib.Seq.{take-length}
 use Rattle.std.proofs.lemmas.List.{flat_map_more, take_more}
 use Rattle.sheets.specs.Texts.{row_text, spaced}

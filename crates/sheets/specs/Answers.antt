@@ -6,7 +6,7 @@
 --     Drawn m v out       out is the text of the drawing
 --     Prints bs out       out is what is printed for the input bs
 --     Fails bs e          when there is no answer for the input bs
-use Rattle.std.specs.Prelude.{◌≡◌, ℕ, List, [], ◌∷◌, ◌++◌, map, Some, None, Ok, Err, Option, Result}
+use Rattle.std.specs.Prelude.{◌≡◌, ℕ, List, [], ◌∷◌, ◌++◌, map, Some, None, Ok, Err, Result}
 use Rattle.std.specs.List.{range_with_len}
 use Rattle.grid.specs.declared.blank.Blank.{Blank}
 use Rattle.grid.specs.declared.cell.Cell.{Cell}

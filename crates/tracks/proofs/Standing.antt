@@ -1,13 +1,10 @@
 -- Worlds and drawings that stand as their journals say, call by call. Assumes nothing.
-use Rattle.std.proofs.Common.{◌≡◌, ℕ, true, ◌⊎◌, ◌↔◌, List, [], ◌∷◌, ◌++◌, sym, refl, ap, ◌∙◌, subst, inl, inr, ⊎_elim, append_assoc, arith}
-use Rattle.std.specs.List.{AllByRecursion as All}
+use Rattle.std.proofs.Common.{◌≡◌, ℕ, true, ◌↔◌, List, [], ◌∷◌, ◌++◌, sym, refl, ap, ◌∙◌, subst, append_assoc, arith}
 use Rattle.std.proofs.ByRecursion.{All-weaker}
-use Rattle.grid.specs.declared.cell.Cell.{Cell}
 use Rattle.grid.specs.declared.chunk.Chunk.{Chunk}
 use Rattle.grid.specs.declared.window.Window.{Window}
 use Rattle.grid.specs.Counts.{Counts}
 use Rattle.grid.specs.Meanings.{Meaning}
-use Rattle.grid.specs.Places.{chunk_of}
 use Rattle.tables.specs.declared.table.Table.{Table}
 use Rattle.tables.specs.Tables.{Right, holds}
 use Rattle.worlds.specs.declared.drawing.Drawing.{Drawing}
@@ -24,8 +21,8 @@ use Rattle.tracks.specs.declared.call.Call.{Call}
 use Rattle.tracks.specs.declared.run.Phase.{Phase}
 use Rattle.tracks.specs.declared.run.Phase.TheVariants.{Alone, Open}
 use Rattle.tracks.specs.Promises.{Between, Fair, Faithful, Holds, Sound, Stands, stage_of, table_in}
-use Rattle.tracks.specs.Runs.{Does, Runs, alone}
-use Rattle.tracks.proofs.Fairness.{Ends, Owed, drawing_between, fair_between, fair_finish, fair_none, fair_other}
+use Rattle.tracks.specs.Runs.{Runs, alone}
+use Rattle.tracks.proofs.Fairness.{Ends, Owed, drawing_between, fair_between, fair_finish, fair_other}
 
 module _ {F : Type 0} (meaning : F → Meaning) (ordered : F → Type 0) (m : Meaning) where
   -- a world by itself, after an event that ends no drawing

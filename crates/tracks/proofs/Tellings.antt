@@ -1,10 +1,9 @@
 -- What runs tell is what the field means, and only nearby ground matters to it. Assumes nothing.
 use Rattle.std.proofs.Common.{◌≡◌, ℕ, min, List, [], ◌∷◌, ◌++◌, Ok, Err, sym, refl, ap, ◌∙◌, subst, inl, inr, ⊎_elim, append_assoc, append-nil, arith}
-use Rattle.grid.specs.declared.cell.Cell.{Cell}
 use Rattle.grid.specs.declared.window.Window.{Window}
 use Rattle.grid.specs.Counts.{Among}
-use Rattle.grid.specs.Meanings.{Answer, Meaning}
-use Rattle.grid.specs.Piles.{Stencil, carry}
+use Rattle.grid.specs.Meanings.{Meaning}
+use Rattle.grid.specs.Piles.{carry}
 use Rattle.grid.specs.Windows.{cell_of}
 use Rattle.grid.proofs.Counting.{numbered}
 use Rattle.grid.proofs.Locality.{locality}
@@ -16,7 +15,7 @@ use Rattle.worlds.specs.Rows.{Placed, RowAnswer, asked, ending, row_told}
 use Rattle.worlds.proofs.Unions.{among_cases}
 use Rattle.tracks.specs.declared.call.Call.{Call}
 use Rattle.tracks.specs.declared.call.Call.TheVariants.{Look, Clear, Begin, Row, Finish}
-use Rattle.tracks.specs.Promises.{NearOnly, Told}
+use Rattle.tracks.specs.Promises.{NearOnly}
 use Rattle.tracks.specs.Runs.{Does, RowBy, Runs, Stage, alone, drawing}
 
 module _ (m : Meaning) where

@@ -11,7 +11,7 @@
 --     Draws m n before during d i e j     the same of a row with n places, where the drawing d began after the journal `before`
 --     Faithful m cs p j   on a world just opened that means m, the calls cs told j and led to p
 --     Replayed f cs n run     what a run of the calls cs on a world of the field f gives, where the caller's vector had n places
-use Rattle.std.specs.Prelude.{◌≡◌, ℕ, ◌*◌, ◌≤◌, true, ◌⊎◌, ◌↔◌, List, [], ◌∷◌, ◌++◌, length, take, vec_items}
+use Rattle.std.specs.Prelude.{◌≡◌, ℕ, ◌*◌, ◌≤◌, true, ◌⊎◌, ◌↔◌, List, ◌∷◌, ◌++◌, length, take, vec_items}
 use Rattle.std.specs.List.{AllByRecursion as All}
 use Rattle.grid.specs.declared.cell.Cell.{Cell}
 use Rattle.grid.specs.declared.chunk.Chunk.{Chunk}

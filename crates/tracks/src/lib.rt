@@ -1,4 +1,6 @@
 // Tracks: calls made on a world one after another, with a journal of what they told; two of them side by side.
+#![tactic(auto)]
+
 pub mod call;
 pub mod compare;
 pub mod replay;

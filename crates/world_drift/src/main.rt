@@ -1,5 +1,7 @@
 // world_drift: draws windows that drift over a coast, for measuring, and prints what the heights add up to.
 // Nothing is claimed of it beyond that it is safe and ends: the answers are those of the library, and what is printed is compared.
+#![tactic(auto)]
+
 use anyhow::anyhow;
 use coasts::kinds::{heights, roads};
 use grid::cell::Cell;

@@ -1,5 +1,5 @@
 -- A row as it is written, cell by cell. Assumes nothing.
-use Rattle.std.proofs.Common.{◌≡◌, ℕ, ◌+◌, ◌<◌, ◌≤◌, true, ◌⊎◌, List, [], ◌∷◌, ◌++◌, length, get_or, set, IsErrAnd, Some, None, Ok, Err, Result, sym, refl, ap, ◌∙◌, subst, ⊎_elim, append-nil, arith}
+use Rattle.std.proofs.Common.{◌≡◌, ℕ, ◌+◌, ◌<◌, ◌≤◌, true, List, [], ◌∷◌, ◌++◌, length, get_or, set, IsErrAnd, Some, None, Ok, Err, Result, sym, refl, ap, ◌∙◌, subst, ⊎_elim, append-nil, arith}
 use Rattle.std.proofs.lemmas.List.FromFn.{map-range_with_len_more}
 use Rattle.std.proofs.lemmas.List.{get_or-set_other, get_or-set_same, length-set}
 use Rattle.std.proofs.lemmas.Int.{ints}
@@ -19,7 +19,7 @@ use Rattle.worlds.specs.Calls.{Rows, Writes}
 use Rattle.worlds.specs.Drawings.{Goes_on, Underway, fills_of, next_of, window_of, world_of}
 use Rattle.worlds.specs.Journals.{InDrawing, Journal, OfWindow, Spares, Touches}
 use Rattle.worlds.specs.Refusals.{looked}
-use Rattle.worlds.specs.Rows.{RowAnswer, as_row, asked, column_of, row_told, told_by}
+use Rattle.worlds.specs.Rows.{RowAnswer, as_row, column_of, row_told, told_by}
 use Rattle.worlds.specs.Worlds.{held_by, world_meaning, world_ordered}
 use Rattle.worlds.proofs.Goings.{goes_more, underway_more}
 use Rattle.worlds.proofs.Stretches.{stretch_idle, stretch_none}

@@ -13,7 +13,6 @@ use Rattle.grid.specs.declared.cell.Cell.{Cell}
 use Rattle.grid.specs.declared.window.Window.{Window}
 use Rattle.grid.specs.Meanings.{Meaning}
 use Rattle.grid.specs.Windows.{cell_of, corner_of, height_of, width_of}
-use Rattle.worlds.specs.declared.event.Event.{Event}
 use Rattle.worlds.specs.declared.event.Event.TheVariants.{Asked, Wrote, Refused}
 use Rattle.worlds.specs.declared.refusal.BlankFault.{BlankFault}
 use Rattle.worlds.specs.declared.refusal.RowRefusal.{RowRefusal}

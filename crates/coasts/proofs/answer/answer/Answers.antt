@@ -1,4 +1,4 @@
-use Rattle.std.proofs.Common.{◌≡◌, ℕ, IfOk, Ok, Err, string_bytes, Result, sym, ap, subst}
+use Rattle.std.proofs.Common.{ℕ, IfOk, Ok, Err, string_bytes, Result, sym, subst}
 use Rattle.grid.specs.Piles.{carry}
 use Rattle.grid.specs.Windows.{Makes}
 use Rattle.grounds.specs.Noises.{noise}

@@ -1,7 +1,6 @@
 use Rattle.std.proofs.Common.{◌≡◌, ◌-◌, ◌<◌, ◌≤◌, [], length, string_bytes, sym, refl, ap, ◌∙◌, arith}
 use Rattle.grid.specs.Windows.{height_of, width_of}
 use Rattle.coasts.proofs.Drawings.{Reached, drawn_all, drawn_blank, reached_more, reached_none}
-use Rattle.coasts.proofs.Rows.{went_well}
 use Rattle.coasts.proofs.draw.draw.Given as given
 use Rattle.coasts.proofs.draw.draw.Goals as goal
 use Rattle.coasts.proofs.draw.draw.Goals.{After-height-end}

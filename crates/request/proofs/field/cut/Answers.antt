@@ -1,4 +1,4 @@
-use Rattle.std.proofs.Common.{◌≡◌, ℕ, ◌-◌, List, length, take, sym, ap, ◌∙◌, subst, arith, rules}
+use Rattle.std.proofs.Common.{◌≡◌, ℕ, ◌-◌, length, take, sym, ap, ◌∙◌, subst, arith}
 use lib.Seq.{take-length}
 use Rattle.std.proofs.ByRecursion.{All-more}
 use Rattle.request.proofs.Cuts.{Lacks, cut_here}

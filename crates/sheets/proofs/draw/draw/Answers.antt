@@ -3,7 +3,7 @@ use Rattle.grid.specs.Windows.{height_of}
 use Rattle.grid.proofs.Chunks.{columns, counts_chunks, rows}
 use Rattle.sheets.specs.Answers.{row_cells}
 use Rattle.sheets.specs.Texts.{row_text}
-use Rattle.sheets.proofs.Rows.{Written, blank_row, went_well, whole_row, written_blank, written_more}
+use Rattle.sheets.proofs.Rows.{Written, blank_row, whole_row, written_blank, written_more}
 use Rattle.sheets.proofs.draw.draw.Goals as goal
 
 pub returns-in_default : goal.returns-in_default

@@ -1,6 +1,5 @@
-use Rattle.std.proofs.Common.{◌≡◌, ℕ, Some, sym, ap, ◌∙◌}
+use Rattle.std.proofs.Common.{ℕ, Some, sym, ap, ◌∙◌}
 use Rattle.std.specs.Option.{option_map}
-use Rattle.grid.specs.Meanings.{Meaning}
 use Rattle.grid.specs.Piles.{carry}
 use Rattle.grounds.specs.Noises.{noise}
 use Rattle.request.specs.declared.Kind.{Kind}

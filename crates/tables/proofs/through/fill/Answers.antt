@@ -1,9 +1,9 @@
-use Rattle.std.proofs.Common.{◌≡◌, ℕ, ◌%◌, ◌<◌, Bool, cond, eqb, sym, ap, ◌∙◌, subst, arith}
+use Rattle.std.proofs.Common.{◌≡◌, ℕ, ◌%◌, ◌<◌, Bool, cond, eqb, ap, ◌∙◌, subst, arith}
 use Rattle.grid.specs.declared.cell.Cell.{Cell}
 use Rattle.grid.specs.declared.chunk.Chunk.{Chunk}
 use Rattle.grid.specs.Meanings.{Meaning}
 use Rattle.grid.specs.Places.{cell_in, chunk_of, same_chunk, slot_of}
-use Rattle.tables.specs.Tables.{holding, holds, mark}
+use Rattle.tables.specs.Tables.{mark}
 use Rattle.tables.proofs.Filling.{Filled, Holding, Put, filled_all, filled_more, kept_more}
 use Rattle.tables.proofs.through.fill.Goals as goal
 

@@ -3,7 +3,6 @@ use Rattle.std.proofs.lemmas.Bool.{false≢true}
 use Rattle.grid.specs.Places.{chunk_of}
 use Rattle.tables.specs.Tables.{holds}
 use Rattle.tables.proofs.Filling.{held_already, right_filled}
-use Rattle.tables.proofs.through.hold.Given as given
 use Rattle.tables.proofs.through.hold.Goals as goal
 
 pub returns : goal.returns

@@ -1,7 +1,7 @@
-use Rattle.std.proofs.Common.{◌+◌, ◌-◌, ◌*◌, ◌≤◌, [], length, take, vec_items, vec_len, vec_capacity}
+use Rattle.std.proofs.Common.{◌-◌, ◌*◌, ◌≤◌, [], length, take, vec_items, vec_len, vec_capacity}
 use Rattle.grid.specs.Meanings.{Meaning}
 use Rattle.tracks.specs.Promises.{Sound, stage_of}
-use Rattle.tracks.specs.Runs.{Runs, alone}
+use Rattle.tracks.specs.Runs.{Runs}
 use Rattle.tracks.proofs.replay.replay.Given as goal
 
 abbrev pub invariant-loop-done : goal.invariant-loop-done

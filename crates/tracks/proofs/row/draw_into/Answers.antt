@@ -1,8 +1,7 @@
-use Rattle.std.proofs.Common.{◌≡◌, ℕ, List, ◌++◌, length, get_or, vec_items, sym, refl, ap, ◌∙◌, subst}
+use Rattle.std.proofs.Common.{◌≡◌, ℕ, ◌++◌, get_or, vec_items, sym, refl, ◌∙◌, subst}
 use Rattle.grid.specs.Meanings.{Meaning}
 use Rattle.grid.specs.declared.window.Window.{Window}
 use Rattle.worlds.specs.Drawings.{next_of, window_of}
-use Rattle.worlds.specs.Journals.{Journal}
 use Rattle.worlds.specs.Rows.{Answers, told_by}
 use Rattle.tracks.specs.Runs.{drawing}
 use Rattle.tracks.proofs.row.draw_into.Goals as goal

@@ -1,9 +1,7 @@
-use Rattle.std.proofs.Common.{◌≡◌, [], ◌∷◌, ◌++◌, vec_items, sym, refl, subst, ⊎_elim, arith}
+use Rattle.std.proofs.Common.{◌≡◌, [], ◌∷◌, vec_items, sym, refl, subst, ⊎_elim, arith}
 use Rattle.grid.specs.Meanings.{Meaning}
-use Rattle.worlds.specs.Journals.{Journal}
 use Rattle.worlds.specs.declared.event.Event.TheVariants.{Finished, Passed}
 use Rattle.tracks.specs.declared.call.Call.{Call}
-use Rattle.tracks.specs.declared.call.Call.TheVariants.{Row, Finish}
 use Rattle.tracks.specs.declared.run.Phase.TheVariants.{Alone, Open}
 use Rattle.tracks.specs.Promises.{Sound, stage_of}
 use Rattle.tracks.specs.Runs.{Does, alone}

@@ -1,5 +1,4 @@
-use Rattle.std.proofs.Common.{◌≡◌, [], ◌∷◌, ◌++◌, vec_items, sym, subst, arith}
-use Rattle.worlds.specs.Journals.{Journal}
+use Rattle.std.proofs.Common.{vec_items, sym, subst, arith}
 use Rattle.tracks.specs.declared.run.Phase.{Phase}
 use Rattle.tracks.specs.declared.run.Phase.TheVariants.{Alone}
 use Rattle.tracks.specs.Promises.{Turns}

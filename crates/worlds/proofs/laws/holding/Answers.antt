@@ -1,10 +1,10 @@
-use Rattle.std.proofs.Common.{◌≡◌, ◌↔◌, [], ◌∷◌, ◌++◌, sym, refl, ap, ◌∙◌, inl, inr, ⊎_elim}
+use Rattle.std.proofs.Common.{sym, refl, ap, ◌∙◌, inl, inr, ⊎_elim}
 use Rattle.std.proofs.lemmas.Bool.{false≢true}
 use Rattle.grid.specs.declared.chunk.Chunk.{Chunk}
 use Rattle.grid.specs.Places.{slot_of}
 use Rattle.worlds.specs.declared.event.Event.{Event}
 use Rattle.worlds.specs.declared.event.Event.TheVariants.{Asked, Begun, Wrote, Refused, Finished, Passed}
-use Rattle.worlds.specs.Journals.{Held, Journal, Spares, Touches}
+use Rattle.worlds.specs.Journals.{Spares, Touches}
 use Rattle.worlds.specs.Laws.{ChangesNothing}
 use Rattle.worlds.proofs.Histories.{held_clear, held_more}
 use Rattle.worlds.proofs.laws.holding.Goals as goal

@@ -4,7 +4,6 @@ use Rattle.grid.specs.Meanings.{risen}
 use Rattle.grid.specs.Piles.{Whole, area}
 use Rattle.grid.proofs.Steps.{step_beyond}
 use Rattle.layers.proofs.Walks.{answers_blank, answers_height, area_most, count_below, count_full, front_length, heard, same_layer, same_some, some_or_none, walked_front, walked_more, walked_on}
-use Rattle.layers.proofs.layer.LayerField.ask.Given as given
 use Rattle.layers.proofs.layer.LayerField.ask.Goals as goal
 use Rattle.layers.proofs.layer.LayerField.ask.Goals.{else-search-test, then-search-test+then-loop-column-test+in-Err}
 
