@@ -1,7 +1,7 @@
 -- A drawing and its text, row by row. Assumes nothing.
 use Rattle.std.proofs.Common.{◌≡◌, ℕ, zero, suc, ◌+◌, ◌*◌, ◌<◌, ◌≤◌, List, [], ◌∷◌, ◌++◌, map, length, take, Ok, Err, sym, refl, ap, ◌∙◌, subst, inl, inr, ⊎_elim, arith}
 use mathlib.Core.Path.{transport}
-use Rattle.std.specs.List.{range_with_len, AllByRecursion as All}
+use Rattle.std.specs.List.{range_with_len, AllByRecursion}
 use Rattle.std.proofs.lemmas.Bool.{cases_eq}
 use Rattle.grid.specs.declared.chunk.Chunk.{Chunk}
 use Rattle.grid.specs.declared.window.Window.{Window}
@@ -110,7 +110,7 @@ module _ {F : Type 0} (meaning : F → Meaning) (ordered : F → Type 0) (m : Me
         out ≡ text ++ fills_text n → Drawn m v out
     drawn_all n out ended exact is =
         let count = exact so.during so.underway in
-        let within = subst (λ (w : Window). All (InDrawing w) so.during) so.window so.underway.table.within in
+        let within = subst (λ (w : Window). AllByRecursion (InDrawing w) so.during) so.window so.underway.table.within in
         record {
           fills = n;
           counted = record {

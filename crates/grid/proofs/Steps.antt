@@ -1,6 +1,6 @@
 -- A step over what a field may mean is again what a field may mean. Assumes nothing.
 use Rattle.std.proofs.Common.{◌≡◌, ℕ, suc, Bool, true, false, cond, List, [], ◌∷◌, length, Ok, Err, Result, sym, refl, ap, ◌∙◌, subst, arith}
-use Rattle.std.specs.List.{AllByRecursion as All}
+use Rattle.std.specs.List.{AllByRecursion}
 use Rattle.std.proofs.lemmas.List.FromFn.{length-map-range_with_len}
 use Rattle.grid.specs.declared.blank.Blank.{Blank}
 use Rattle.grid.specs.declared.cell.Cell.{Cell}
@@ -15,7 +15,7 @@ before_whole (Ok h) (Ok ts) hs e = (h, ts, refl, refl, cc)
 before_whole (Ok h) (Err b) hs e = let z : ◌≡◌ {A = ℕ} 0 1 = cc in absurd (omega arith)
 before_whole (Err b) r hs e = let z : ◌≡◌ {A = ℕ} 0 1 = cc in absurd (omega arith)
 
-survey_whole : (m : Meaning) → Lawful m → (cs : List Cell) (hs : List ℕ) → survey m cs ≡ Ok hs → (length hs ≡ length cs) × All Height hs
+survey_whole : (m : Meaning) → Lawful m → (cs : List Cell) (hs : List ℕ) → survey m cs ≡ Ok hs → (length hs ≡ length cs) × AllByRecursion Height hs
 unfolding survey
 survey_whole m law [] hs e = let n : [] ≡ hs = cc in rw (sym n) (refl, tt)
 survey_whole m law (c ∷ cs) hs e =

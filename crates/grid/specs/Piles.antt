@@ -12,7 +12,7 @@
 --     Locality            grounds that agree within the margin of a cell are carried to the same answer there
 --     Squares             a square is exactly the cells within its radius, each once, in reading order
 use Rattle.std.specs.Prelude.{◌≡◌, ℕ, ◌+◌, ◌*◌, ◌/◌, ◌%◌, ◌<◌, ◌≤◌, cond, List, [], ◌∷◌, map, length, pos, ◌-ℤ◌, Ok, Err, Result, slice_index_or}
-use Rattle.std.specs.List.{range_with_len, AllByRecursion as All}
+use Rattle.std.specs.List.{range_with_len, AllByRecursion}
 use Rattle.grid.specs.declared.blank.Blank.{Blank}
 use Rattle.grid.specs.declared.cell.Cell.{Cell}
 use Rattle.grid.specs.Counts.{Among, Once}
@@ -36,7 +36,7 @@ square r c = map (nth_cell (side r) (north_west r c)) (range_with_len 0 (area r)
 
 pub record Whole (r : ℕ) (hs : List ℕ) : Type 0 where
   pub size : length hs ≡ area r
-  pub heights : All Height hs
+  pub heights : AllByRecursion Height hs
 
 pub record Stencil : Type 0 where
   pub radius : ℕ

@@ -3,7 +3,7 @@
 --     smoothing_fit       it is what every rule has to be
 use Rattle.std.specs.Prelude.{ℕ, ◌+◌, ◌*◌, ◌/◌, ◌≤◌, List, [], ◌∷◌, map}
 use Rattle.std.proofs.Common.{arith}
-use Rattle.std.specs.List.{AllByRecursion as All}
+use Rattle.std.specs.List.{AllByRecursion}
 use Rattle.std.proofs.lemmas.Nat.{mul-le}
 use Rattle.grid.specs.Meanings.{Height}
 use Rattle.grid.specs.Piles.{Fit, Stencil}
@@ -24,7 +24,7 @@ abbrev pub smoothing : Stencil
 smoothing = record { radius = 1; value = λ hs. weighed weights hs / 16 }
 
 -- a sum of heights by their weights is at most the sum of the weights times the greatest height
-weighed_most : (ws hs : List ℕ) → All Height hs → weighed ws hs ≤ weighed ws (map (λ _. 65534) ws)
+weighed_most : (ws hs : List ℕ) → AllByRecursion Height hs → weighed ws hs ≤ weighed ws (map (λ _. 65534) ws)
 weighed_most [] hs a = omega arith
 weighed_most (w ∷ ws) [] a = omega arith
 weighed_most (w ∷ ws) (h ∷ hs) (p, a) = omega (arith, mul-le w h w 65534 (omega arith) p, weighed_most ws hs a)

@@ -1,14 +1,14 @@
 -- A list cut at the first place of a byte. Assumes nothing.
 use Rattle.std.proofs.Common.{◌≡◌, ℕ, ◌+◌, ◌-◌, ◌<◌, ◌≤◌, List, [], ◌∷◌, ◌++◌, length, get_or, take, drop, sym, refl, ap, ◌∙◌, subst, arith, length-drop, take-append-drop}
 use lib.Seq.{take-length}
-use Rattle.std.specs.List.{AllByRecursion as All}
+use Rattle.std.specs.List.{AllByRecursion}
 use Rattle.std.proofs.ByRecursion.{All-weaker}
 use Rattle.std.proofs.lemmas.List.{drop_more}
 use Rattle.request.specs.Fields.{Printable}
 
 module _ (end : ℕ) where
   abbrev pub Lacks : List ℕ → Type 0
-  Lacks bs = All (λ b. b ≡ end → ⊥) bs
+  Lacks bs = AllByRecursion (λ b. b ≡ end → ⊥) bs
 
   -- the parts of a slice before and after a place, as the code has them
   pub cut_here : (bs : List ℕ) (i : ℕ) → i < length bs → get_or bs i 0 ≡ end → bs ≡ take (i - 0) bs ++ end ∷ take (length bs - (i + 1)) (drop (i + 1) bs)

@@ -6,18 +6,18 @@
 --     FieldRead text P end bs r    r is the value that bs begins with, and what follows its `end`
 use Rattle.std.specs.Prelude.{◌≡◌, ℕ, ◌≤◌, List, ◌∷◌, ◌++◌, Some, None, Option, ◌≢◌}
 use Rattle.std.specs.Borrow.{Bor}
-use Rattle.std.specs.List.{AllByRecursion as All}
+use Rattle.std.specs.List.{AllByRecursion}
 
 abbrev pub Printable : List ℕ → Type 0
-Printable t = All (λ b. 33 ≤ b) t
+Printable t = AllByRecursion (λ b. 33 ≤ b) t
 
 abbrev pub Spells : {X : Type 0} → (X → List ℕ) → (X → Type 0) → List ℕ → Option X → Type 0
 Spells text P t (Some v) = P v × (t ≡ text v)
 Spells {X} text P t None = (v : X) → P v → t ≢ text v
 
 abbrev pub Cut : ℕ → List ℕ → Option (Bor (List ℕ) × Bor (List ℕ)) → Type 0
-Cut end bs (Some (front, back)) = (bs ≡ front.now ++ end ∷ back.now) × All (λ b. b ≢ end) front.now
-Cut end bs None = All (λ b. b ≢ end) bs
+Cut end bs (Some (front, back)) = (bs ≡ front.now ++ end ∷ back.now) × AllByRecursion (λ b. b ≢ end) front.now
+Cut end bs None = AllByRecursion (λ b. b ≢ end) bs
 
 -- bs begins with the text of v, of which P holds, and `end`; back follows
 pub record Begins {X : Type 0} (text : X → List ℕ) (P : X → Type 0) (end : ℕ) (bs : List ℕ) (v : X) (back : List ℕ) : Type 0 where

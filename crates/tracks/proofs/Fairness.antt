@@ -1,7 +1,7 @@
 -- The fills of finished drawings, as a journal grows. Assumes nothing.
 use Rattle.std.proofs.Common.{◌≡◌, ℕ, ◌⊎◌, [], ◌∷◌, ◌++◌, sym, refl, ap, ◌∙◌, subst, inl, inr, ⊎_elim, append_assoc, append-nil}
 use mathlib.Core.List.{head-eq_of_cons-eq, tail-eq_of_cons-eq}
-use Rattle.std.specs.List.{AllByRecursion as All}
+use Rattle.std.specs.List.{AllByRecursion}
 use Rattle.std.proofs.lemmas.List.{same_from_push}
 use Rattle.grid.specs.declared.chunk.Chunk.{Chunk}
 use Rattle.grid.specs.declared.window.Window.{Window}
@@ -67,10 +67,10 @@ some [] e j = tt
 some (x ∷ i) e j = tt
 
 -- the last begin of a journal stands at one place
-one_begin : (x y d f : Journal) (w v : Window) → x ++ Begun w ∷ d ≡ y ++ Begun v ∷ f → All Between d → All Between f → (x ≡ y) × (d ≡ f)
+one_begin : (x y d f : Journal) (w v : Window) → x ++ Begun w ∷ d ≡ y ++ Begun v ∷ f → AllByRecursion Between d → AllByRecursion Between f → (x ≡ y) × (d ≡ f)
 one_begin [] [] d f w v e p q = (refl, tail-eq_of_cons-eq e)
-one_begin [] (b ∷ y) d f w v e p q = absurd (all_right Between y (Begun v ∷ f) (subst (All Between) (tail-eq_of_cons-eq e) p)).0
-one_begin (a ∷ x) [] d f w v e p q = absurd (all_right Between x (Begun w ∷ d) (subst (All Between) (sym (tail-eq_of_cons-eq e)) q)).0
+one_begin [] (b ∷ y) d f w v e p q = absurd (all_right Between y (Begun v ∷ f) (subst (AllByRecursion Between) (tail-eq_of_cons-eq e) p)).0
+one_begin (a ∷ x) [] d f w v e p q = absurd (all_right Between x (Begun w ∷ d) (subst (AllByRecursion Between) (sym (tail-eq_of_cons-eq e)) q)).0
 one_begin (a ∷ x) (b ∷ y) d f w v e p q =
     let r = one_begin x y d f w v (tail-eq_of_cons-eq e) p q in
     ((λ i. head-eq_of_cons-eq e i ∷ r.0 i), r.1)
@@ -84,7 +84,7 @@ last_apart x b d i f e = ap (λ (z : Journal). x ++ b ∷ z) (sym (append_assoc 
 
 -- one more event: the earlier drawings stay fair, and a finish owes its own
 fair_push : (j : Journal) (e : Event) → Fair j →
-    ((before during : Journal) (v : Window) (n : ℕ) → j ≡ before ++ Begun v ∷ during → e ≡ Finished n → All Between during → Owed before during v n) →
+    ((before during : Journal) (v : Window) (n : ℕ) → j ≡ before ++ Begun v ∷ during → e ≡ Finished n → AllByRecursion Between during → Owed before during v n) →
     Fair (j ++ e ∷ [])
 fair_push j e fair new before during after v n eq b = ⊎_elim
     (λ none.
@@ -100,13 +100,13 @@ fair_push j e fair new before during after v n eq b = ⊎_elim
 pub fair_other : (j : Journal) (e : Event) → Fair j → (Ends e → ⊥) → Fair (j ++ e ∷ [])
 fair_other j e fair goes_on = fair_push j e fair (λ before during v n p is b. absurd (goes_on (subst Ends (sym is) tt)))
 
-pub fair_between : (j i : Journal) → Fair j → All Between i → Fair (j ++ i)
+pub fair_between : (j i : Journal) → Fair j → AllByRecursion Between i → Fair (j ++ i)
 fair_between j [] fair a = subst Fair (sym (append-nil j)) fair
 fair_between j (e ∷ i) fair a =
     subst Fair (append_assoc j (e ∷ []) i) (fair_between (j ++ e ∷ []) i (fair_other j e fair (between_goes_on e a.0)) a.1)
 
 -- the finish of the drawing that is open
-pub fair_finish : (before during : Journal) (v : Window) (n : ℕ) → Fair (before ++ Begun v ∷ during) → All Between during → Owed before during v n →
+pub fair_finish : (before during : Journal) (v : Window) (n : ℕ) → Fair (before ++ Begun v ∷ during) → AllByRecursion Between during → Owed before during v n →
     Fair ((before ++ Begun v ∷ during) ++ Finished n ∷ [])
 fair_finish before during v n fair b owed =
     fair_push (before ++ Begun v ∷ during) (Finished n) fair

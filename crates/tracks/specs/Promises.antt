@@ -12,7 +12,7 @@
 --     Faithful m cs p j   on a world just opened that means m, the calls cs told j and led to p
 --     Replayed f cs n run     what a run of the calls cs on a world of the field f gives, where the caller's vector had n places
 use Rattle.std.specs.Prelude.{◌≡◌, ℕ, ◌*◌, ◌≤◌, true, ◌⊎◌, ◌↔◌, List, ◌∷◌, ◌++◌, length, take, vec_items}
-use Rattle.std.specs.List.{AllByRecursion as All}
+use Rattle.std.specs.List.{AllByRecursion}
 use Rattle.grid.specs.declared.cell.Cell.{Cell}
 use Rattle.grid.specs.declared.chunk.Chunk.{Chunk}
 use Rattle.grid.specs.declared.window.Window.{Window}
@@ -57,7 +57,7 @@ Between Passed = Unit {0}
 abbrev pub Fair : Journal → Type 0
 Fair j =
     (before during after : Journal) (v : Window) (n : ℕ) →
-    j ≡ before ++ Begun v ∷ (during ++ Finished n ∷ after) → All Between during →
+    j ≡ before ++ Begun v ∷ (during ++ Finished n ∷ after) → AllByRecursion Between during →
     Counts n (Missing (Held before) during) × ((k : Chunk) → Touched during k → Held (before ++ Begun v ∷ during) k)
 
 abbrev pub Holds : Meaning → Table → Chunk → Type 0

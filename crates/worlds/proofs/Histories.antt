@@ -1,6 +1,6 @@
 -- Touched and held chunks, as a journal grows. Assumes nothing.
 use Rattle.std.proofs.Common.{◌⊎◌, ◌↔◌, List, [], ◌∷◌, ◌++◌, inl, inr, ⊎_elim}
-use Rattle.std.specs.List.{AllByRecursion as All}
+use Rattle.std.specs.List.{AllByRecursion}
 use Rattle.std.proofs.ByRecursion.{All-append}
 use Rattle.grid.specs.declared.chunk.Chunk.{Chunk}
 use Rattle.worlds.specs.declared.event.Event.{Event}
@@ -8,11 +8,11 @@ use Rattle.worlds.specs.declared.event.Event.TheVariants.{Cleared}
 use Rattle.worlds.specs.Journals.{Held, HeldSince, Journal, Spares, Touched, Touches}
 
 module _ {X : Type 0} (P : X → Type 0) where
-  pub all_left : (xs ys : List X) → All P (xs ++ ys) → All P xs
+  pub all_left : (xs ys : List X) → AllByRecursion P (xs ++ ys) → AllByRecursion P xs
   all_left [] ys a = tt
   all_left (x ∷ xs) ys a = (a.0, all_left xs ys a.1)
 
-  pub all_right : (xs ys : List X) → All P (xs ++ ys) → All P ys
+  pub all_right : (xs ys : List X) → AllByRecursion P (xs ++ ys) → AllByRecursion P ys
   all_right [] ys a = a
   all_right (x ∷ xs) ys a = all_right xs ys a.1
 
@@ -36,7 +36,7 @@ module _ (k : Chunk) where
   held_cases (e ∷ i) j (inl h) = inr (inl (h.0, all_left (Spares k) i j h.1), all_right (Spares k) i j h.1)
   held_cases (e ∷ i) j (inr h) = ⊎_elim inl (λ l. inr (inr l.0, l.1)) (held_cases i j h)
 
-  pub held_left : (i j : Journal) → Held i k → All (Spares k) j → Held (i ++ j) k
+  pub held_left : (i j : Journal) → Held i k → AllByRecursion (Spares k) j → Held (i ++ j) k
   held_left [] j h s = absurd h
   held_left (e ∷ i) j (inl h) s = inl (h.0, All-append (Spares k) i j h.1 s)
   held_left (e ∷ i) j (inr h) s = inr (held_left i j h s)

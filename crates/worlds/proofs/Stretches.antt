@@ -1,7 +1,7 @@
 -- Stretches of a drawing, one after another: what is held, and how many fills. Assumes nothing.
 use Rattle.std.proofs.Common.{◌≡◌, ℕ, ◌+◌, ◌≤◌, Bool, true, not, ◌&&◌, ◌⊎◌, ◌↔◌, [], ◌∷◌, ◌++◌, sym, refl, ap, ◌∙◌, subst, inl, inr, ⊎_elim}
 use mir.Val.{bool_byte}
-use Rattle.std.specs.List.{AllByRecursion as All}
+use Rattle.std.specs.List.{AllByRecursion}
 use Rattle.std.proofs.ByRecursion.{All-append, All-weaker}
 use Rattle.std.proofs.lemmas.Bool.{and_from, and_parts, cases_Bool, false≢true, not_from_false}
 use Rattle.grid.specs.declared.cell.Cell.{Cell}
@@ -9,7 +9,7 @@ use Rattle.grid.specs.declared.chunk.Chunk.{Chunk}
 use Rattle.grid.specs.declared.window.Window.{Window}
 use Rattle.grid.specs.Meanings.{Answer}
 use Rattle.grid.specs.Places.{chunk_of, inside}
-use Rattle.grid.specs.Windows.{Touches as Window-touches, corner_of, height_of, width_of}
+use Rattle.grid.specs.Windows.{Touches as WindowTouches, corner_of, height_of, width_of}
 use Rattle.grid.proofs.Chunks.{few_chunks, one_slot}
 use Rattle.grid.proofs.Rectangles.{all_inside}
 use Rattle.tables.specs.Tables.{touch}
@@ -57,11 +57,11 @@ module _ (v : Window) where
   cell_inside c (i, j, west, north, is) =
       subst (λ (d : Cell). inside d ≡ true) is (all_inside (corner_of v) (width_of v) (height_of v) v.wide.0 v.high.0 v.first v.last i j west north)
 
-  chunk_touched : (c : Cell) → OfWindow v c → Window-touches v (chunk_of c)
+  chunk_touched : (c : Cell) → OfWindow v c → WindowTouches v (chunk_of c)
   chunk_touched c (i, j, west, north, is) = (i, j, west, north, ap chunk_of is)
 
-  event_touches : (k : Chunk) (e : Event) → InDrawing v e → Touches k e → Window-touches v k
-  event_touches k (Asked c a) within t = subst (Window-touches v) t.1 (chunk_touched c within)
+  event_touches : (k : Chunk) (e : Event) → InDrawing v e → Touches k e → WindowTouches v k
+  event_touches k (Asked c a) within t = subst (WindowTouches v) t.1 (chunk_touched c within)
   event_touches k Cleared within t = absurd t
   event_touches k (Begun w) within t = absurd t
   event_touches k Wrote within t = absurd t
@@ -69,12 +69,12 @@ module _ (v : Window) where
   event_touches k (Finished n) within t = absurd t
   event_touches k Passed within t = absurd t
 
-  pub drawing_touches : (k : Chunk) (j : Journal) → All (InDrawing v) j → Touched j k → Window-touches v k
+  pub drawing_touches : (k : Chunk) (j : Journal) → AllByRecursion (InDrawing v) j → Touched j k → WindowTouches v k
   drawing_touches k [] within t = absurd t
   drawing_touches k (e ∷ j) within (inl t) = event_touches k e within.0 t
   drawing_touches k (e ∷ j) within (inr t) = drawing_touches k j within.1 t
 
-  event_spares : (k : Chunk) → Window-touches v k → (e : Event) → InDrawing v e → Spares k e
+  event_spares : (k : Chunk) → WindowTouches v k → (e : Event) → InDrawing v e → Spares k e
   event_spares k w (Asked c a) within = λ _ same. one_slot v (chunk_of c) k (chunk_touched c within) w same
   event_spares k w Cleared within = within
   event_spares k w (Begun x) within = tt
@@ -84,11 +84,11 @@ module _ (v : Window) where
   event_spares k w Passed within = tt
 
   -- a drawing spares each of them ..
-  drawing_spares : (k : Chunk) → Window-touches v k → (j : Journal) → All (InDrawing v) j → All (Spares k) j
+  drawing_spares : (k : Chunk) → WindowTouches v k → (j : Journal) → AllByRecursion (InDrawing v) j → AllByRecursion (Spares k) j
   drawing_spares k w j within = All-weaker (InDrawing v) (Spares k) (event_spares k w) j within
 
   -- .. so what it touches it holds
-  drawing_holds : (k : Chunk) (j : Journal) → All (InDrawing v) j → Touched j k → Held j k
+  drawing_holds : (k : Chunk) (j : Journal) → AllByRecursion (InDrawing v) j → Touched j k → Held j k
   drawing_holds k [] within t = absurd t
   drawing_holds k (e ∷ j) within (inl t) = inl (t, drawing_spares k (event_touches k e within.0 t) j within.1)
   drawing_holds k (e ∷ j) within (inr t) = inr (drawing_holds k j within.1 t)

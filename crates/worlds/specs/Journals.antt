@@ -9,7 +9,7 @@
 --     InDrawing v e      e can stand in a drawing of the window: it asks one of its cells, or nothing
 --     Stretch v H j I n   a stretch j of a drawing of the window: where the chunks of H were held, it took n fills and leaves those of I
 use Rattle.std.specs.Prelude.{◌≡◌, ℕ, ◌<◌, Bool, true, ◌⊎◌, ◌↔◌, List, [], ◌∷◌}
-use Rattle.std.specs.List.{AllByRecursion as All}
+use Rattle.std.specs.List.{AllByRecursion}
 use Rattle.grid.specs.declared.cell.Cell.{Cell}
 use Rattle.grid.specs.declared.chunk.Chunk.{Chunk}
 use Rattle.grid.specs.declared.window.Window.{Window}
@@ -46,10 +46,10 @@ Touched (e ∷ later) k = Touches k e ⊎ Touched later k
 
 abbrev pub Held : Journal → Chunk → Type 0
 Held [] k = ⊥
-Held (e ∷ later) k = (Touches k e × All (Spares k) later) ⊎ Held later k
+Held (e ∷ later) k = (Touches k e × AllByRecursion (Spares k) later) ⊎ Held later k
 
 abbrev pub HeldSince : (Chunk → Type 0) → Journal → Chunk → Type 0
-HeldSince H j k = Held j k ⊎ (H k × All (Spares k) j)
+HeldSince H j k = Held j k ⊎ (H k × AllByRecursion (Spares k) j)
 
 abbrev pub Missing : (Chunk → Type 0) → Journal → Chunk → Type 0
 Missing H j k = Touched j k × (H k → ⊥)
@@ -68,6 +68,6 @@ InDrawing v Passed = Unit {0}
 
 -- each chunk that it touched and that was not held before took one fill
 pub record Stretch (v : Window) (H : Chunk → Type 0) (j : Journal) (I : Chunk → Bool) (n : ℕ) : Type 0 where
-  pub within : All (InDrawing v) j
+  pub within : AllByRecursion (InDrawing v) j
   pub held : (k : Chunk) → (I k ≡ true) ↔ HeldSince H j k
   pub fills : Counts n (Missing H j)

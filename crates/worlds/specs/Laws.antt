@@ -7,7 +7,7 @@ use Rattle.grid.specs.declared.chunk.Chunk.{Chunk}
 use Rattle.grid.specs.declared.window.Window.{Window}
 use Rattle.grid.specs.Meanings.{Answer}
 use Rattle.grid.specs.Places.{chunk_of, inside, slot_of}
-use Rattle.grid.specs.Windows.{Touches as Window-touches}
+use Rattle.grid.specs.Windows.{Touches as WindowTouches}
 use Rattle.worlds.specs.declared.event.Event.{Event}
 use Rattle.worlds.specs.declared.event.Event.TheVariants.{Asked, Cleared, Begun, Wrote, Refused, Finished, Passed}
 use Rattle.worlds.specs.Journals.{Held, Journal}
@@ -31,4 +31,4 @@ pub record Holding : Type 0 where
   pub passed : ChangesNothing Passed
 
 abbrev pub DifferentSlots : Type 0
-DifferentSlots = (v : Window) (j k : Chunk) → Window-touches v j → Window-touches v k → slot_of j ≡ slot_of k → j ≡ k
+DifferentSlots = (v : Window) (j k : Chunk) → WindowTouches v j → WindowTouches v k → slot_of j ≡ slot_of k → j ≡ k

@@ -45,5 +45,5 @@ returns c =
     let first = c.in_ok-x.ensures in
     let second = c.in_ok-y.ensures in
     let x_fits : SFits w32 c.in_ok-x.x = fits_32 _ first.fits in
-    let y-fits : SFits w32 c.in_ok-y.y = fits_32 _ second.fits in
+    let y_fits : SFits w32 c.in_ok-y.y = fits_32 _ second.fits in
     simp to_z-of_z (whole c.in_ok-kind.ensures c.in_ok-seed.ensures first second c.in_ok-width.ensures c.in_ok-height.ensures)
