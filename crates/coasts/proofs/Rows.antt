@@ -11,7 +11,7 @@ use Rattle.grid.specs.Piles.{survey}
 use Rattle.grid.specs.Windows.{cell_of, height_of, width_of}
 use Rattle.layers.proofs.Surveys.{survey_all, survey_first}
 use Rattle.worlds.specs.declared.refusal.RowRefusal.{RowRefusal}
-use Rattle.worlds.specs.declared.refusal.RowRefusal.TheVariants.{Full, Short, Blank as Is-blank}
+use Rattle.worlds.specs.declared.refusal.RowRefusal.TheVariants.{Full, Short, Blank as IsBlank}
 use Rattle.worlds.specs.Refusals.{fault_refusal, row_refusal}
 use Rattle.worlds.specs.Rows.{Answers, Placed, column_of}
 use Rattle.worlds.proofs.Rowing.{column_is}
@@ -43,7 +43,7 @@ module _ (m : Meaning) (v : Window) (j : ℕ) (p : List ℕ) where
       (b : Blank) × (survey m (row_cells v j) ≡ Err b) × (row_refusal e ≡ fault_refusal)
   row_blank Full n high room placed said = absurd (omega arith)
   row_blank Short n high room placed said = absurd (omega (arith, placed.1))
-  row_blank (Is-blank f) n high room (_, _, (i, wide, is)) (before, blank) =
+  row_blank (IsBlank f) n high room (_, _, (i, wide, is)) (before, blank) =
       let column : column_of v f.cell ≡ i = ap (column_of v) is ∙ column_is v i j in (
         f.blank,
         survey_first m (row_cells v j) i f.blank (omega (arith, long))

@@ -9,6 +9,7 @@ use grid::field::Field;
 use grid::window::{LONGEST_SIDE, Window};
 use sheets::kinds::heights;
 use std::env;
+use std::process::ExitCode;
 
 const SEED: u64 = 1;
 
@@ -106,10 +107,12 @@ fn run(rt: &HostRuntime) -> anyhow::Result<()> {
     Ok(())
 }
 
-fn main(rt: HostRuntime) -> anyhow::Result<()> {
-    let result = run(&rt);
-    if let Err(error) = &result {
-        let _ = eprintln!(rt; "drift: {error}");
+fn main(rt: HostRuntime) -> ExitCode {
+    match run(&rt) {
+        Ok(()) => ExitCode::SUCCESS,
+        Err(error) => {
+            let _ = eprintln!(rt; "drift: {error}");
+            ExitCode::FAILURE
+        }
     }
-    result
 }

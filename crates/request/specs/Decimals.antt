@@ -1,11 +1,11 @@
--- Decimal texts, digit by digit. Assumes nothing.
+-- Decimal texts, digit by digit: lemmas, which the laws of the fields cite. No contract rests on a definition of this file. Assumes nothing.
 use Rattle.std.specs.Prelude.{◌≡◌, ℕ, zero, suc, ◌+◌, ◌-◌, ◌*◌, ◌^◌, ◌<◌, ◌≤◌, List, [], ◌∷◌, length, take, drop, ℤ, pos, negsuc, Some, None, Ok, Err, decimal, Option, Result, FitsSigned, ◌≢◌, slice_index, slice_index_or, unsigned_abs}
 use Rattle.std.proofs.Common.{sym, ◌∙◌, ap, subst, arith}
 use Rattle.std.proofs.Math.Seq.{take-length}
 use Rattle.std.specs.Result.{OkIff, result_ok}
 use Rattle.std.specs.Str.Parse.{AllDigits, digits_value, digits_value_after}
 use Rattle.std.specs.Int.{IsInRange, w32}
-use Rattle.std.specs.Char.{digit_value as digitValue}
+use Rattle.std.specs.Char.{digit_value}
 use Rattle.std.specs.Fmt.{signed_decimal}
 use Rattle.std.proofs.lemmas.Fmt.{decimal_digit, decimal_is_IsNumeral, decimal-digits_value, first_decimal, decimal_injective}
 use Rattle.std.proofs.lemmas.Int.Digits.{digits_more, digits_value_more}
@@ -21,12 +21,12 @@ own = numerals_by_value (AllDigits 10) tells_digits
 -- digits only add to the value that is read before them
 value_grows : (n : ℕ) (ds : List ℕ) → n ≤ digits_value_after 10 n ds
 value_grows n [] = omega arith
-value_grows n (c ∷ cs) = omega (arith, value_grows (n * 10 + digitValue c) cs)
+value_grows n (c ∷ cs) = omega (arith, value_grows (n * 10 + digit_value c) cs)
 
 value_take : (n i : ℕ) (ds : List ℕ) → digits_value_after 10 n (take i ds) ≤ digits_value_after 10 n ds
 value_take n zero ds = value_grows n ds
 value_take n (suc i) [] = omega arith
-value_take n (suc i) (c ∷ cs) = value_take (n * 10 + digitValue c) i cs
+value_take n (suc i) (c ∷ cs) = value_take (n * 10 + digit_value c) i cs
 
 -- the first i bytes are digits, and n is their value
 abbrev pub DigitsSoFar : List ℕ → ℕ → ℕ → Type 0
@@ -62,12 +62,12 @@ module _ (n : ℕ) (bs : List ℕ) (fits : n < 2 ^ 64) (is : bs ≡ decimal n) w
   pub no_large : (i m : ℕ) → DigitsSoFar bs i m → 2 ^ 64 ≤ m → ⊥
   no_large i m p big = omega (arith, p.1, value_take 0 i bs, shape.is)
 
-digit_value : (c : ℕ) → 48 ≤ c → c ≤ 57 → digitValue c ≡ c - 48
-digit_value c h k = grind arith
+digit_is : (c : ℕ) → 48 ≤ c → c ≤ 57 → digit_value c ≡ c - 48
+digit_is c h k = grind arith
 
 pub one_more : (bs : List ℕ) (i n d : ℕ) → i < length bs → 48 ≤ slice_index bs i → slice_index bs i ≤ 57 → d ≡ slice_index bs i - 48 → DigitsSoFar bs i n → DigitsSoFar bs (i + 1) (n * 10 + d)
 one_more bs i n d l a b e p =
-    let g = digit_value (slice_index bs i) a b in
+    let g = digit_is (slice_index bs i) a b in
     let m = digits_value_more 10 bs i l in
     (digits_more 10 bs i l p.0 (omega arith), omega (arith, p.1))
 

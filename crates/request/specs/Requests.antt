@@ -1,7 +1,7 @@
 -- The request line. Assumes nothing.
 --     kind_word k          the word of a kind
 --     Int32 z, Negative32 z     z fits 32 bits with a sign, and is negative too
---     space, line-feed     the two bytes that part fields and end lines
+--     space, line_feed     the two bytes that part fields and end lines
 --     line_of q            the line of a request, its line feed included
 --     asked_corner q       the north-west cell of the window that is asked for
 --     Opens bs q           the bytes open with the line of q

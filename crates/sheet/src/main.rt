@@ -8,6 +8,7 @@ use request::LONGEST_LINE;
 use sheets::answer::answer;
 use std::io;
 use std::io::Read;
+use std::process::ExitCode;
 
 // Reads up to the first line feed, and no byte more than a request line can have. The answer is how many bytes came.
 fn read_line(input: &mut impl Read, line: &mut [u8; LONGEST_LINE]) -> io::Result<usize>
@@ -34,10 +35,12 @@ fn run(rt: &HostRuntime) -> anyhow::Result<()> {
     Ok(())
 }
 
-fn main(rt: HostRuntime) -> anyhow::Result<()> {
-    let result = run(&rt);
-    if let Err(error) = &result {
-        let _ = eprintln!(rt; "sheet: {error}");
+fn main(rt: HostRuntime) -> ExitCode {
+    match run(&rt) {
+        Ok(()) => ExitCode::SUCCESS,
+        Err(error) => {
+            let _ = eprintln!(rt; "sheet: {error}");
+            ExitCode::FAILURE
+        }
     }
-    result
 }

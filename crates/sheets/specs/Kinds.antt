@@ -1,7 +1,7 @@
 -- The kinds of coast. Assumes nothing.
 --     rules_of k          the rules of a kind, the topmost first, where it is built
 --     formula ss s        rules carried up from the noise of seed s
---     Heights-pile        the pile of the kind `heights`, with a cache below each rule layer
+--     Smoothed F          a pile of a cache over F and a smoothing; the kind `heights` is two of them over the noise
 --     heights_meaning, heights_ordered      what such a pile means, and when its stores are in order
 use Rattle.std.specs.Prelude.{ℕ, List, [], ◌∷◌, Some, None, Option}
 use Rattle.grid.specs.Meanings.{Meaning}

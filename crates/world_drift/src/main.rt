@@ -11,6 +11,7 @@ use grounds::constant::Constant;
 use layers::layer::Layer;
 use rules::road::Road;
 use std::env;
+use std::process::ExitCode;
 use worlds::drawing::Drawing;
 use worlds::world::World;
 
@@ -148,10 +149,12 @@ fn run(rt: &HostRuntime) -> anyhow::Result<()> {
     Ok(())
 }
 
-fn main(rt: HostRuntime) -> anyhow::Result<()> {
-    let result = run(&rt);
-    if let Err(error) = &result {
-        let _ = eprintln!(rt; "world_drift: {error}");
+fn main(rt: HostRuntime) -> ExitCode {
+    match run(&rt) {
+        Ok(()) => ExitCode::SUCCESS,
+        Err(error) => {
+            let _ = eprintln!(rt; "world_drift: {error}");
+            ExitCode::FAILURE
+        }
     }
-    result
 }

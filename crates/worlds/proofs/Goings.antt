@@ -8,7 +8,7 @@ use Rattle.grid.specs.Places.{chunk_of, inside}
 use Rattle.tables.specs.Tables.{Through}
 use Rattle.worlds.specs.declared.drawing.Drawing.{Drawing}
 use Rattle.worlds.specs.declared.event.Event.TheVariants.{Asked, Begun, Finished}
-use Rattle.worlds.specs.Drawings.{Goes_on, Underway, fills_of, most, window_of, world_of}
+use Rattle.worlds.specs.Drawings.{GoesOn, Underway, fills_of, most, window_of, world_of}
 use Rattle.worlds.specs.Journals.{Held, Journal, OfWindow, Stretch}
 use Rattle.worlds.specs.Worlds.{Fits, below_of, held_by, table_of}
 use Rattle.worlds.proofs.Fitting.{fits_idle, ordered_asked}
@@ -16,7 +16,7 @@ use Rattle.worlds.proofs.Histories.{held_both, held_idle}
 use Rattle.worlds.proofs.Stretches.{stretch_asked, stretch_few, stretch_more}
 
 module _ {F : Type 0} (meaning : F → Meaning) (ordered : F → Type 0) where
-  pub goes_more : (c d e : Drawing F) (i j : Journal) → Goes_on meaning ordered c i d → Goes_on meaning ordered d j e → Goes_on meaning ordered c (i ++ j) e
+  pub goes_more : (c d e : Drawing F) (i j : Journal) → GoesOn meaning ordered c i d → GoesOn meaning ordered d j e → GoesOn meaning ordered c (i ++ j) e
   goes_more c d e i j g h = record {
     window = h.window ∙ g.window;
     same = λ o. h.same (g.order o) ∙ g.same o;
@@ -33,7 +33,7 @@ module _ {F : Type 0} (meaning : F → Meaning) (ordered : F → Type 0) where
 
   -- the law of the history
   pub underway_more : (m : Meaning) (d e : Drawing F) (before during j : Journal) →
-      Goes_on meaning ordered d j e → Underway meaning ordered m d before during → Underway meaning ordered m e before (during ++ j)
+      GoesOn meaning ordered d j e → Underway meaning ordered m d before during → Underway meaning ordered m e before (during ++ j)
   underway_more m d e before during j g u =
       let H = Held before in
       let K = held_by (world_of e) in
@@ -52,7 +52,7 @@ module _ {F : Type 0} (meaning : F → Meaning) (ordered : F → Type 0) where
   pub goes_asked : (c : Cell) (a : Answer) (d e : Drawing F) (filled : Bool) (n : ℕ) → window_of e ≡ window_of d → OfWindow (window_of d) c →
       Through meaning ordered c (below_of (world_of d)) (table_of (world_of d)) (below_of (world_of e)) (table_of (world_of e)) →
       filled ≡ (inside c && not (held_by (world_of d) (chunk_of c))) → n ≡ bool_byte filled → fills_of e ≡ min (fills_of d + n) most →
-      Goes_on meaning ordered d (Asked c a ∷ []) e
+      GoesOn meaning ordered d (Asked c a ∷ []) e
   goes_asked c a d e filled n window here t is counts fills = record {
     window = window;
     same = λ o. t.same o.0;

@@ -16,7 +16,7 @@ use Rattle.worlds.specs.declared.event.Event.TheVariants.{Asked, Wrote, Refused}
 use Rattle.worlds.specs.declared.refusal.BlankFault.{BlankFault}
 use Rattle.worlds.specs.declared.refusal.RowRefusal.TheVariants.{Full, Short, Blank}
 use Rattle.worlds.specs.Calls.{Rows, Writes}
-use Rattle.worlds.specs.Drawings.{Goes_on, Underway, fills_of, next_of, window_of, world_of}
+use Rattle.worlds.specs.Drawings.{GoesOn, Underway, fills_of, next_of, window_of, world_of}
 use Rattle.worlds.specs.Journals.{InDrawing, Journal, OfWindow, Spares, Touches}
 use Rattle.worlds.specs.Refusals.{looked}
 use Rattle.worlds.specs.Rows.{RowAnswer, as_row, column_of, row_told, told_by}
@@ -54,7 +54,7 @@ err_is (Err y) x h = ap Err h
 module _ {F : Type 0} (meaning : F → Meaning) (ordered : F → Type 0) where
   -- ---- events that ask nothing
 
-  none_on : (d : Drawing F) → Goes_on meaning ordered d [] d
+  none_on : (d : Drawing F) → GoesOn meaning ordered d [] d
   none_on d = record {
     window = refl;
     same = λ u. refl;
@@ -69,7 +69,7 @@ module _ {F : Type 0} (meaning : F → Meaning) (ordered : F → Type 0) where
   at_row j d = record { world = world_of d; window = window_of d; next = j; fills = fills_of d }
 
   idle_on : (d : Drawing F) (j : ℕ) (e : Event) → ((k : Chunk) → Touches k e → ⊥) → ((k : Chunk) → Spares k e) → InDrawing (window_of d) e →
-      Goes_on meaning ordered d (e ∷ []) (at_row j d)
+      GoesOn meaning ordered d (e ∷ []) (at_row j d)
   idle_on d j e quiet spares within = record {
     window = refl;
     same = λ u. refl;
@@ -87,7 +87,7 @@ module _ {F : Type 0} (meaning : F → Meaning) (ordered : F → Type 0) where
     pub long : length p ≡ length o
     pub past : (k : ℕ) → i ≤ k → get_or p k 0 ≡ get_or o k 0
     pub heights : world_ordered meaning ordered (world_of d) → (k : ℕ) → k < i → world_meaning meaning (world_of d) (cell_of (window_of d) k (next_of d)) ≡ Ok (get_or p k 0)
-    pub goes : (m : Meaning) → Goes_on meaning ordered d (row_told m (window_of d) (next_of d) i) e
+    pub goes : (m : Meaning) → GoesOn meaning ordered d (row_told m (window_of d) (next_of d) i) e
 
   pub way_none : (d : Drawing F) (o : List ℕ) → Way d o 0 d o
   way_none d o = record {
@@ -120,22 +120,22 @@ module _ {F : Type 0} (meaning : F → Meaning) (ordered : F → Type 0) where
       answer = λ u. ((λ k l. way.heights u k (omega arith)), tt);
       past = (way.long, λ k l. way.past k (omega arith));
       next = way.next;
-      goes = λ n. subst (λ (k : ℕ). Goes_on meaning ordered d (row_told n (window_of d) (next_of d) k) e) ended (way.goes n);
+      goes = λ n. subst (λ (k : ℕ). GoesOn meaning ordered d (row_told n (window_of d) (next_of d) k) e) ended (way.goes n);
     }
 
     -- the next cell was asked
     module _ (f : Drawing F) {at : Cell} (found : Some at ≡ cell_if_any (window_of d) i (next_of d)) (wide : i < width_of (window_of d)) (room : width_of (window_of d) ≤ length o)
-        (kept : next_of f ≡ next_of e) (on : OfWindow (window_of e) at → (n : Meaning) → Goes_on meaning ordered e (Asked at (n at) ∷ []) f) where
+        (kept : next_of f ≡ next_of e) (on : OfWindow (window_of e) at → (n : Meaning) → GoesOn meaning ordered e (Asked at (n at) ∷ []) f) where
       is : at ≡ here
       is = some_one (found ∙ cell wide)
 
       of_window : OfWindow (window_of e) at
       of_window = subst (λ (v : Window). OfWindow v at) (sym window) (i, next_of d, wide, high, sym is)
 
-      goes : (n : Meaning) → Goes_on meaning ordered d (row_told n (window_of d) (next_of d) (i + 1)) f
+      goes : (n : Meaning) → GoesOn meaning ordered d (row_told n (window_of d) (next_of d) (i + 1)) f
       goes n =
           let told = row_told n (window_of d) (next_of d) i in
-          subst (λ (j : Journal). Goes_on meaning ordered d j f)
+          subst (λ (j : Journal). GoesOn meaning ordered d j f)
           (ap (λ (c : Cell). told ++ Asked c (n c) ∷ []) is ∙ sym (told_more n (window_of d) (next_of d) i))
           (goes_more meaning ordered d e f told (Asked at (n at) ∷ []) (way.goes n) (on of_window n))
 
@@ -167,17 +167,17 @@ module _ {F : Type 0} (meaning : F → Meaning) (ordered : F → Type 0) where
             answer = λ u. ((λ k l. way.heights u k (omega arith)), ap m (at-is ∙ is) ∙ looked_err here (m here) x (meant (Err x) said u));
             past = (way.long, λ k l. way.past k (omega arith));
             next = kept ∙ way.next;
-            goes = λ n. subst (λ (k : ℕ). Goes_on meaning ordered d (row_told n (window_of d) (next_of d) (k + 1)) f) (sym column) (goes n);
+            goes = λ n. subst (λ (k : ℕ). GoesOn meaning ordered d (row_told n (window_of d) (next_of d) (k + 1)) f) (sym column) (goes n);
           }
 
   -- ---- how a row ends
 
   -- the history follows from how the drawing goes on
-  history : {d e : Drawing F} (r : RowAnswer) → ((m : Meaning) → Goes_on meaning ordered d (told_by m (window_of d) (next_of d) r) e) →
+  history : {d e : Drawing F} (r : RowAnswer) → ((m : Meaning) → GoesOn meaning ordered d (told_by m (window_of d) (next_of d) r) e) →
       (m : Meaning) (before during : Journal) → Underway meaning ordered m d before during → Underway meaning ordered m e before (during ++ told_by m (window_of d) (next_of d) r)
   history r on m before during u = underway_more meaning ordered m _ _ before during _ (on m) u
 
-  refused_on : (d : Drawing F) (n : ℕ) → Goes_on meaning ordered d (Refused n ∷ []) d
+  refused_on : (d : Drawing F) (n : ℕ) → GoesOn meaning ordered d (Refused n ∷ []) d
   refused_on d n = idle_on d (next_of d) (Refused n) (λ k t. t) (λ k. tt) tt
 
   pub told_full : (d : Drawing F) (o : List ℕ) → height_of (window_of d) ≤ next_of d → Rows meaning ordered d o (Err Full) d o
@@ -204,8 +204,8 @@ module _ {F : Type 0} (meaning : F → Meaning) (ordered : F → Type 0) where
 
   pub told_blank : (d : Drawing F) (o : List ℕ) (r : RowAnswer) (x : BlankFault) (e : Drawing F) (p : List ℕ) → r ≡ Err (Blank x) → Writes meaning ordered d o (Err (Blank x)) e p → Rows meaning ordered d o r e p
   told_blank d o r x e p back row =
-      let goes : (m : Meaning) → Goes_on meaning ordered d (told_by m (window_of d) (next_of d) (Err (Blank x))) e =
-      λ m. subst (λ (j : Journal). Goes_on meaning ordered d j e) (sym (append-nil _)) (row.goes m) in
+      let goes : (m : Meaning) → GoesOn meaning ordered d (told_by m (window_of d) (next_of d) (Err (Blank x))) e =
+      λ m. subst (λ (j : Journal). GoesOn meaning ordered d j e) (sym (append-nil _)) (row.goes m) in
       subst (λ (y : RowAnswer). Rows meaning ordered d o y e p) (sym back) record {
         placed = row.placed;
         answer = row.answer;
@@ -218,7 +218,7 @@ module _ {F : Type 0} (meaning : F → Meaning) (ordered : F → Type 0) where
 
   pub told_whole : (d : Drawing F) (o : List ℕ) (e : Drawing F) (p : List ℕ) → Writes meaning ordered d o (Ok tt) e p → Rows meaning ordered d o (Ok tt) (at_row (next_of e + 1) e) p
   told_whole d o e p row =
-      let goes : (m : Meaning) → Goes_on meaning ordered d (told_by m (window_of d) (next_of d) (Ok tt)) (at_row (next_of e + 1) e) =
+      let goes : (m : Meaning) → GoesOn meaning ordered d (told_by m (window_of d) (next_of d) (Ok tt)) (at_row (next_of e + 1) e) =
       λ m. goes_more meaning ordered d e (at_row (next_of e + 1) e) _ (Wrote ∷ []) (row.goes m) (idle_on e (next_of e + 1) Wrote (λ k t. t) (λ k. tt) tt) in
       record {
         placed = row.placed;

@@ -14,7 +14,7 @@ use Rattle.worlds.specs.declared.event.Event.TheVariants.{Asked, Begun, Finished
 use Rattle.worlds.specs.declared.refusal.BlankFault.{BlankFault}
 use Rattle.worlds.specs.declared.refusal.RowRefusal.TheVariants.{Full, Short}
 use Rattle.worlds.specs.declared.world.World.{World}
-use Rattle.worlds.specs.Drawings.{Goes_on, Underway, fills_of, next_of, window_of, world_of}
+use Rattle.worlds.specs.Drawings.{GoesOn, Underway, fills_of, next_of, window_of, world_of}
 use Rattle.worlds.specs.Journals.{Held, Journal, Missing, Touched}
 use Rattle.worlds.specs.Refusals.{looked}
 use Rattle.worlds.specs.Rows.{Answers, Past, Placed, RowAnswer, asked, next_after, row_told, told_by}
@@ -33,7 +33,7 @@ module _ {F : Type 0} (meaning : F → Meaning) (ordered : F → Type 0) where
     pub answer : world_ordered meaning ordered (world_of d) → Answers (world_meaning meaning (world_of d)) (window_of d) (next_of d) r p
     pub past : Past (window_of d) r out p
     pub next : next_of e ≡ next_of d
-    pub goes : (m : Meaning) → Goes_on meaning ordered d (row_told m (window_of d) (next_of d) (asked (window_of d) r)) e
+    pub goes : (m : Meaning) → GoesOn meaning ordered d (row_told m (window_of d) (next_of d) (asked (window_of d) r)) e
 
   pub record Rows (d : Drawing F) (out : List ℕ) (r : RowAnswer) (e : Drawing F) (p : List ℕ) : Type 0 where
     -- when each refusal comes, and where a blank lies
@@ -45,7 +45,7 @@ module _ {F : Type 0} (meaning : F → Meaning) (ordered : F → Type 0) where
     -- a refusal for want of rows or of room leaves everything as it was
     pub stays : (r ≡ Err Full) ⊎ (r ≡ Err Short) → (e ≡ d) × (p ≡ out)
     -- what the world holds, and the fills
-    pub goes : (m : Meaning) → Goes_on meaning ordered d (told_by m (window_of d) (next_of d) r) e
+    pub goes : (m : Meaning) → GoesOn meaning ordered d (told_by m (window_of d) (next_of d) r) e
     pub history : (m : Meaning) (before during : Journal) → Underway meaning ordered m d before during → Underway meaning ordered m e before (during ++ told_by m (window_of d) (next_of d) r)
 
   pub record Finishes (d : Drawing F) (w : World F) (n : ℕ) : Type 0 where

@@ -1,7 +1,7 @@
 -- Drawings. Assumes nothing.
 --     world_of d, window_of d, next_of d, fills_of d     the parts of a drawing: its next row, counted from 0, and its fills so far
 --     Underway m d before during     the drawing's world means m and fits the journal before it; since then came the events of `during`
---     Goes_on d j e       how a drawing goes on from d to e by the events j
+--     GoesOn d j e       how a drawing goes on from d to e by the events j
 use Rattle.std.specs.Prelude.{◌≡◌, ℕ, ◌+◌, ◌≤◌, true}
 use Rattle.grid.specs.declared.window.Window.{Window}
 use Rattle.grid.specs.Meanings.{Meaning}
@@ -33,7 +33,7 @@ module _ {F : Type 0} (meaning : F → Meaning) (ordered : F → Type 0) where
     pub means : world_meaning meaning (world_of d) ≡ m
     pub table : Stretch (window_of d) (Held before) during (held_by (world_of d)) (fills_of d)
 
-  pub record Goes_on (d : Drawing F) (j : Journal) (e : Drawing F) : Type 0 where
+  pub record GoesOn (d : Drawing F) (j : Journal) (e : Drawing F) : Type 0 where
     pub window : window_of e ≡ window_of d
     pub same : world_ordered meaning ordered (world_of d) → world_meaning meaning (world_of e) ≡ world_meaning meaning (world_of d)
     pub order : world_ordered meaning ordered (world_of d) → world_ordered meaning ordered (world_of e)

@@ -3,7 +3,7 @@ ghost use Rattle.std.specs.Prelude.{◌≡◌, ◌<◌, ◌≤◌, [], ◌∷◌
 ghost use Rattle.grid.specs.Meanings.{Meaning};
 ghost use Rattle.grid.specs.Windows.{height_of, width_of};
 ghost use Rattle.worlds.specs.Calls.{Finishes, Rows, Writes};
-ghost use Rattle.worlds.specs.Drawings.{Goes_on, Underway, fills_of, next_of, window_of, world_of};
+ghost use Rattle.worlds.specs.Drawings.{GoesOn, Underway, fills_of, next_of, window_of, world_of};
 ghost use Rattle.worlds.specs.Journals.{Journal, OfWindow};
 ghost use Rattle.worlds.specs.Refusals.{FaultsAt, looked};
 ghost use Rattle.worlds.specs.Rows.{as_row};
@@ -50,7 +50,7 @@ impl<F: Field> Drawing<F> {
         ensures answer { world_ordered F.Field.meaning F.Field.ordered (world_of self.old) → result ≡ looked at (world_meaning F.Field.meaning (world_of self.old) at) }
         ensures cell { FaultsAt at result }
         ensures next { next_of self.new ≡ next_of self.old }
-        ensures goes { OfWindow (window_of self.old) at → (m : Meaning) → Goes_on F.Field.meaning F.Field.ordered self.old (Asked at (m at) ∷ []) self.new }
+        ensures goes { OfWindow (window_of self.old) at → (m : Meaning) → GoesOn F.Field.meaning F.Field.ordered self.old (Asked at (m at) ∷ []) self.new }
     {
         let (answer, filled) = self.world.ask(at);
         self.fills = self.fills.saturating_add(u32::from(filled));
