@@ -1,7 +1,7 @@
 use Rattle.std.proofs.Common.{nat_abs, arith}
 use Rattle.std.proofs.lemmas.Int.{ints}
 use Rattle.std.proofs.lemmas.Bool.{both_ways}
-use Rattle.request.specs.Decimals.{one_number}
+use Rattle.request.proofs.Decimals.{one_number}
 use Rattle.request.proofs.values.negative.Goals as goal
 
 pub returns-then-not-can_be_negated : goal.returns-then-not-can_be_negated

@@ -3,7 +3,7 @@ use Rattle.std.specs.Fmt.{signed_decimal}
 use Rattle.std.proofs.lemmas.Int.{ints}
 use Rattle.std.proofs.lemmas.Bool.{ltb-false, ltb-true}
 use Rattle.request.specs.Requests.{Int32}
-use Rattle.request.specs.Decimals.{narrowed, no_signed, with_minus}
+use Rattle.request.proofs.Decimals.{narrowed, no_signed, with_minus}
 use Rattle.request.proofs.values.I32Field.read.Goals as goal
 
 pub returns-in-45 : goal.returns-in-45

@@ -1,5 +1,5 @@
 use Rattle.std.proofs.Common.{ℕ, ◌^◌, ◌<◌, decimal, arith}
-use Rattle.request.specs.Decimals.{narrowed, one_number}
+use Rattle.request.proofs.Decimals.{narrowed, one_number}
 use Rattle.request.proofs.values.U16Field.read.Goals as goal
 
 pub returns : goal.returns

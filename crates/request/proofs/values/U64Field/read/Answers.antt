@@ -1,6 +1,6 @@
 use Rattle.std.proofs.Common.{◌≡◌, ◌+◌, ◌*◌, ◌^◌, ◌<◌, ◌≤◌, length, get_or, inl, inr, arith, rules}
 use Rattle.std.proofs.lemmas.Bool.{both_ways, cases_lt}
-use Rattle.request.specs.Decimals.{DigitsSoFar, no_empty, no_lead, no_other, no_large, one_more, whole_text}
+use Rattle.request.proofs.Decimals.{DigitsSoFar, no_empty, no_lead, no_other, no_large, one_more, whole_text}
 use Rattle.request.proofs.values.U64Field.read.Goals as goal
 use Rattle.request.proofs.values.U64Field.read.Goals.{After-from-digit, then-b-lt48-via-then-b-lt48, then-b-lt48-via-else-b-lt48+then-b-gt57}
 

@@ -1,5 +1,5 @@
 use Rattle.std.proofs.Common.{◌^◌, ◌<◌}
-use Rattle.request.specs.Decimals.{DigitsSoFar}
+use Rattle.request.proofs.Decimals.{DigitsSoFar}
 use Rattle.request.proofs.values.U64Field.read.Given as goal
 
 abbrev pub invariant-loop-b : goal.invariant-loop-b
