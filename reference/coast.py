@@ -1,7 +1,7 @@
 #!/usr/bin/env python3
 """A second implementation of the coast, written from docs/ alone and sharing no code with the crates.
 
-The expected values in crates/acceptance and crates/drift come from here:
+The expected values in crates/acceptance, crates/drift and crates/world_drift come from here:
 
     reference/coast.py raw SEED X Y W H         the window as `sheet` should print it
     reference/coast.py heights SEED X Y W H     the same for the noise smoothed twice

@@ -1,4 +1,4 @@
--- What `sheet` answers. Assumes nothing.
+-- What a request is answered. Assumes nothing.
 --     row_cells v j       the cells of row j of the window, from west to east
 --     drawn m v js n      the text of the rows js and then the fills, or up to the first row with a blank, and then the refusal
 --     Drawn m v out       out is the text of the drawing

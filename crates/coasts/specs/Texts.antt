@@ -1,4 +1,4 @@
--- The lines that `sheet` prints. Assumes nothing.
+-- The lines of an answer. Assumes nothing.
 --     spaced hs           each height after a space
 --     row_text hs         heights parted by one space
 --     fills_text n        the last line of a drawing

@@ -1,4 +1,4 @@
-// The answer to a request: the text that `sheet` prints.
+// The answer to a request: the text of a drawing, or the line of a refusal.
 ghost use Rattle.std.specs.Prelude.{◌≡◌, IfOk, string_bytes};
 ghost use Rattle.coasts.specs.Answers.{Prints};
 ghost use Rattle.coasts.specs.Texts.{refusal_text};

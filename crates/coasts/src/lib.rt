@@ -1,4 +1,4 @@
-// What `sheet` answers: the text of a drawing, or a refusal.
+// The four kinds of coast, drawn through worlds: the text of a drawing, or a refusal.
 #![tactic(auto)]
 
 pub mod answer;
