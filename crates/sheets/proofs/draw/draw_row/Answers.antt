@@ -1,6 +1,7 @@
 use Rattle.std.proofs.Common.{◌≡◌, ◌+◌, ◌<◌, ◌≤◌, sym, ap, ◌∙◌, subst, rules}
 use Rattle.grid.specs.Meanings.{Meaning}
 use Rattle.grid.specs.Windows.{cell_of, width_of}
+use Rattle.sheets.specs.Answers.{BlankAmong, row_cells}
 use Rattle.sheets.proofs.Rows.{Found, found_all, found_blank, found_more, the_cell}
 use Rattle.sheets.proofs.draw.draw_row.Given as given
 use Rattle.sheets.proofs.draw.draw_row.Goals as goal
@@ -20,11 +21,13 @@ returns-in_default-ask g c =
     let v = c.args.window in
     let within : c.loop-column.column < width_of v = search rules in
     record {
-      row = λ o. (
-        c.in_default-ask.field-0,
-        found_blank (g.F.Field.meaning c.args.field.now) (λ k. cell_of v k c.args.row) (width_of v) c.loop-column.column _ c.in_default-ask.field-0 within
-            (sym (asked g (goal.at.returns-in_default-ask g c).After-ask o) ∙ c.in_default-ask.is) (c.loop-column.invariant o).2,
-      );
+      row = λ o.
+          let blank : BlankAmong (g.F.Field.meaning c.args.field.now) (row_cells v c.args.row) = (
+            c.in_default-ask.field-0,
+            found_blank (g.F.Field.meaning c.args.field.now) (λ k. cell_of v k c.args.row) (width_of v) c.loop-column.column _ c.in_default-ask.field-0 within
+                (sym (asked g (goal.at.returns-in_default-ask g c).After-ask o) ∙ c.in_default-ask.is) (c.loop-column.invariant o).2,
+          ) in
+          blank;
       same = λ o. let i = c.loop-column.invariant o in c.ask.ensures.same i.0 ∙ i.1;
       order = λ o. c.ask.ensures.order (c.loop-column.invariant o).0;
     }

@@ -10,7 +10,7 @@ use Rattle.layers.proofs.layer.LayerField.ask.Goals.{else-search-test, then-sear
 pub returns-then-not-is_inside : goal.returns-then-not-is_inside
 returns-then-not-is_inside g c =
     let e = step_beyond (g.R.Rule.stencil c.args.self.now.rule) (g.F.Field.meaning c.args.self.now.below) c.args.at (sym c.if-not-is_inside.ensures) in
-    record { answer = λ o. cc; same = λ o. refl; order = λ o. o }
+    record { answer = λ o. ap Err c.new.ensures ∙ sym e; same = λ o. refl; order = λ o. o }
 
 pub bounds-square-count : goal.bounds-square-count
 bounds-square-count g c =
