@@ -4,7 +4,7 @@
 --     rim, inside c    1,000,000,000, and whether both coordinates of c lie from minus that to that
 --     eighth z         the floor of z / 8, and rest z what that leaves, from 0 to 7
 --     chunk_of c       the chunk in which c lies
---     LiesIn c k      c is one of the 8 by 8 cells of k
+--     LiesIn c k       c is one of the 8 by 8 cells of k
 --     slot_of k        the table slot to which k belongs
 --     place_of c       the place of c in its chunk, in reading order from 0 to 63
 --     cell_in k p      the cell at place p of k

@@ -2,7 +2,7 @@
 --     corner_of v, width_of v, height_of v     the numbers of a window
 --     cell_of v i j       its cell in column i and row j, counted from 0
 --     cell_if_any v i j   that cell, where the window has such a column and row
---     InsideRim c w h    every cell of the rectangle is inside the rim
+--     InsideRim c w h     every cell of the rectangle is inside the rim
 --     Makes c w h r       what making a window answers
 --     Touches v k         some cell of the window lies in the chunk
 use Rattle.std.specs.Prelude.{◌≡◌, ℕ, ◌<◌, true, cond, ◌&&◌, Some, None, Ok, Err, Option, Result, nat_lt}

@@ -3,7 +3,7 @@
 --     Spells text P t r    r is the value of which t is the text, if P holds of one
 --     Cut end bs r         r is bs cut at its first `end`
 --     Begins text P end bs v back   bs begins with the text of v and `end`, and back follows
---     FieldRead text P end bs r    r is the value that bs begins with, and what follows its `end`
+--     FieldRead text P end bs r     r is the value that bs begins with, and what follows its `end`
 use Rattle.std.specs.Prelude.{◌≡◌, ℕ, ◌≤◌, List, ◌∷◌, ◌++◌, Some, None, Option, ◌≢◌}
 use Rattle.std.specs.Borrow.{Bor}
 use Rattle.std.specs.List.{AllByRecursion}

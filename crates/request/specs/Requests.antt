@@ -6,7 +6,7 @@
 --     asked_corner q       the north-west cell of the window that is asked for
 --     Opens bs q           the bytes open with the line of q
 --     Asks bs q            the same, and the line has at most 80 bytes
---     ReadingFields bs r  r is the one request with whose line the bytes open, if there is one
+--     ReadingFields bs r   r is the one request with whose line the bytes open, if there is one
 --     Reading bs r         r is the one request for which the bytes ask, or the refusal where there is none
 use Rattle.std.specs.Prelude.{◌≡◌, ℕ, ◌^◌, ◌<◌, ◌≤◌, List, [], ◌∷◌, ◌++◌, length, ℤ, pos, neg_ℤ, ◌≤ℤ◌, ◌<ℤ◌, Some, None, Ok, Err, codes, decimal, Option, Result}
 use Rattle.std.specs.Fmt.{signed_decimal}

@@ -3,10 +3,10 @@
 --     apart i j           the distance of two places: the greater of their differences in row and column
 --     Site hs i           the cell at place i is a settlement: it is not 0
 --     Linked hs a b       settlements a and b, a earlier, at most 6 apart, with no settlement nearer to both
---     OnPath a b c       c lies on the path from a along its row to the column of b, and along that column to b
+--     OnPath a b c        c lies on the path from a along its row to the column of b, and along that column to b
 --     Road hs             the centre lies on the path of a linked pair
 --     road                the rule that answers 1 where that is so, else 0
---     RoadsStand         so it does
+--     RoadsStand          so it does
 use Rattle.std.specs.Prelude.{◌≡◌, ℕ, ◌+◌, ◌-◌, ◌/◌, ◌%◌, ◌<◌, ◌≤◌, max, Bool, cond, not, ◌&&◌, ◌||◌, ◌⊎◌, ◌↔◌, List, ◌==◌, nat_le, nat_lt, slice_index, slice_index_or}
 use Rattle.std.proofs.Common.{arith}
 use Rattle.grid.specs.Piles.{Fit, Stencil}

@@ -2,7 +2,7 @@
 --     Outranks hs i j     the height at place i is greater than that at place j, or equal and i comes earlier
 --     Settles hs          the centre outranks the 24 other cells
 --     settlement          the rule that answers 1 where that is so, else 0
---     SettlementsStand   so it does
+--     SettlementsStand    so it does
 use Rattle.std.specs.Prelude.{◌≡◌, ℕ, ◌<◌, ◌≤◌, Bool, true, false, cond, ◌&&◌, ◌||◌, ◌⊎◌, ◌↔◌, List, ◌==◌, ◌≢◌, nat_lt, slice_index}
 use Rattle.std.proofs.Common.{arith}
 use Rattle.grid.specs.Piles.{Fit, Stencil}

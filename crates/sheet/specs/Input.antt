@@ -1,5 +1,5 @@
 -- What is read of standard input. Assumes nothing.
---     StopsAtLineFeed bs n     the first n bytes, at most 80, have no line feed but the last
+--     StopsAtLineFeed bs n        the first n bytes, at most 80, have no line feed but the last
 use Rattle.std.specs.Prelude.{ℕ, ◌+◌, ◌<◌, ◌≤◌, List, ◌≢◌, slice_index}
 
 pub record StopsAtLineFeed (bs : List ℕ) (n : ℕ) : Type 0 where

@@ -1,6 +1,6 @@
 -- What `sheet` answers. Assumes nothing.
 --     row_cells v j       the cells of row j of the window, from west to east
---     BlankAmong m cs    some of these cells is blank
+--     BlankAmong m cs     some of these cells is blank
 --     blank_refusal       the number of the refusal of a blank cell
 --     drawn m v js n      the text of the rows js and then the fills, or up to the first row with a blank, and then the refusal
 --     Drawn m v out       out is the text of the drawing

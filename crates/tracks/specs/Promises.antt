@@ -1,6 +1,6 @@
 -- The promise of locality, and what a run keeps. Assumes nothing.
 --     Told j c a          the journal tells that the cell c answered a
---     NearOnly m n j l   of two worlds that mean m and n and told j and l: only ground within the margin of a cell matters to what was told of it
+--     NearOnly m n j l    of two worlds that mean m and n and told j and l: only ground within the margin of a cell matters to what was told of it
 --     Between e           e can stand between a begin and its finish
 --     Fair j              every finished drawing counted each chunk that it touched and that its world lacked at its begin, and holds all it touched
 --     Holds m t k         the slot of k has its address and the 64 numbers for what m gives

@@ -1,6 +1,6 @@
 -- What calls tell, by the meaning alone. Assumes nothing.
 --     Stage               a world by itself, or in a drawing of a window whose next row is known
---     RowBy m v j n r    r is the answer to a row where row j is next and the caller's row has n places
+--     RowBy m v j n r     r is the answer to a row where row j is next and the caller's row has n places
 --     Does m s c j t      at the stage s the call c tells the journal j and leads to the stage t
 --     Runs m s cs j t     the calls cs do so one after another
 use Rattle.std.specs.Prelude.{◌≡◌, ℕ, ◌<◌, List, [], ◌∷◌, ◌++◌, Ok}

@@ -1,7 +1,7 @@
 -- Drawings. Assumes nothing.
 --     world_of d, window_of d, next_of d, fills_of d     the parts of a drawing: its next row, counted from 0, and its fills so far
 --     Underway m d before during     the drawing's world means m and fits the journal before it; since then came the events of `during`
---     GoesOn d j e       how a drawing goes on from d to e by the events j
+--     GoesOn d j e        how a drawing goes on from d to e by the events j
 use Rattle.std.specs.Prelude.{◌≡◌, ℕ, ◌+◌, ◌≤◌, true}
 use Rattle.grid.specs.declared.window.Window.{Window}
 use Rattle.grid.specs.Meanings.{Meaning}

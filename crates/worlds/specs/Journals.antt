@@ -3,10 +3,10 @@
 --     Spares k e          e does not empty the table, and asks no cell inside the rim of another chunk with the slot of k
 --     Touched j k         some event of the journal touches k
 --     Held j k            some event touches k, and every later one spares it
---     HeldSince H j k    the same, where the chunks of H were held before the journal
+--     HeldSince H j k     the same, where the chunks of H were held before the journal
 --     Missing H j k       k is touched, and not one of H
---     OfWindow v c       c is a cell of the window
---     InDrawing v e      e can stand in a drawing of the window: it asks one of its cells, or nothing
+--     OfWindow v c        c is a cell of the window
+--     InDrawing v e       e can stand in a drawing of the window: it asks one of its cells, or nothing
 --     Stretch v H j I n   a stretch j of a drawing of the window: where the chunks of H were held, it took n fills and leaves those of I
 use Rattle.std.specs.Prelude.{◌≡◌, ℕ, ◌<◌, Bool, true, ◌⊎◌, ◌↔◌, List, [], ◌∷◌}
 use Rattle.std.specs.List.{AllByRecursion}

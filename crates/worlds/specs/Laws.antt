@@ -1,6 +1,6 @@
 -- What is held when, said of one more event at a time. Assumes nothing.
 --     Holding             the chunks that a world holds, as its journal grows
---     DifferentSlots     no two chunks of one window have the same slot, so no fill of a drawing drives out a chunk of it
+--     DifferentSlots      no two chunks of one window have the same slot, so no fill of a drawing drives out a chunk of it
 use Rattle.std.specs.Prelude.{◌≡◌, ℕ, true, false, ◌↔◌, [], ◌∷◌, ◌++◌, ◌≢◌}
 use Rattle.grid.specs.declared.cell.Cell.{Cell}
 use Rattle.grid.specs.declared.chunk.Chunk.{Chunk}

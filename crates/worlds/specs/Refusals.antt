@@ -2,7 +2,7 @@
 --     fault_refusal       the number of every refusal of a blank cell
 --     row_refusal e       why a row is not written
 --     looked c a          what a look at c gives where the field answers a
---     FaultsAt c r       if the answer is a fault, then c was asked
+--     FaultsAt c r        if the answer is a fault, then c was asked
 use Rattle.std.specs.Prelude.{◌≡◌, ℕ, Ok, Err, Result}
 use Rattle.grid.specs.declared.cell.Cell.{Cell}
 use Rattle.grid.specs.Meanings.{Answer}

@@ -1,5 +1,5 @@
 -- Rows of a drawing. Assumes nothing.
---     RowAnswer          what `row` answers
+--     RowAnswer           what `row` answers
 --     written v r         how many cells were written: the whole row, those before the blank one, or none
 --     asked v r           how many cells were asked: those, and the blank one too
 --     Placed v j n r      which answers there are where row j is next and the caller's row has n places
