@@ -2,7 +2,7 @@
 ghost use Rattle.std.specs.Prelude.{◌≡◌, ◌%◌, ◌<◌, true, pos, ◌+ℤ◌, ◌*ℤ◌, Decides};
 ghost use Rattle.grid.specs.Places.{Before, LiesIn, cell_at, cell_in, chunk_of, distance, eighth, inside, place_of};
 
-use crate::chunk::Chunk;
+use crate::chunk::{Chunk, among_64};
 
 // No coordinate of a cell inside the rim is further than this from 0.
 pub const RIM: u32 = 1_000_000_000;
@@ -17,7 +17,7 @@ pub struct Cell {
 fn of_chunk(coordinate: i32, place: u8) -> i32
     ensures { result ≡ (pos 8 *ℤ eighth coordinate) +ℤ pos (place % 8) }
 {
-    (coordinate >> 3) * 8 + (place % 8) as i32
+    (coordinate >> 3) * 8 + i32::from(place % 8)
 }
 
 impl Cell {
@@ -25,7 +25,7 @@ impl Cell {
     pub fn precedes(self, other: Cell) -> bool
         ensures { Decides result (Before self other) }
     {
-        self.y < other.y || self.y == other.y && self.x < other.x
+        (self.y, self.x) < (other.y, other.x)
     }
 
     // The greater of the differences in x and in y.
@@ -58,7 +58,7 @@ impl Cell {
         ensures value { result ≡ place_of self }
         ensures bound { result < 64 }
     {
-        8 * self.y.rem_euclid(8) as usize + self.x.rem_euclid(8) as usize
+        among_64(self.x, self.y)
     }
 
     // The cell at a place of the chunk in which this cell lies. Places past 63 go round.
@@ -77,8 +77,8 @@ impl Cell {
         ensures { result ≡ cell_at self columns rows }
     {
         Cell {
-            x: self.x + columns as i32,
-            y: self.y + rows as i32,
+            x: self.x + i32::from(columns),
+            y: self.y + i32::from(rows),
         }
     }
 }

@@ -9,15 +9,11 @@ pub trait Field {
     // What the field means: a function of the cell alone.
     ghost meaning: { Self → Meaning };
 
-    // When the answers that the field has stored are in order. What it means is claimed of fields in order.
-    ghost ordered: { Self → Type 0 };
+    // What the field means at this cell. To ask changes no meaning.
+    fn ask(&mut self, at: Cell) -> Result<u16, Blank>
+        ensures answer { result ≡ meaning self.old at }
+        ensures same { meaning self.new ≡ meaning self.old };
 
     // What every field owes: blank beyond the rim, and heights from 0 to 65,534.
-    ghost lawful: { (s : Self) → ordered s → Lawful (meaning s) };
-
-    // What the field means at this cell. To ask changes neither meaning nor order.
-    fn ask(&mut self, at: Cell) -> Result<u16, Blank>
-        ensures answer { ordered self.old → result ≡ meaning self.old at }
-        ensures same { ordered self.old → meaning self.new ≡ meaning self.old }
-        ensures order { ordered self.old → ordered self.new };
+    ghost lawful: { (s : Self) → Lawful (meaning s) };
 }

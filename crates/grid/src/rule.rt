@@ -6,9 +6,6 @@ pub trait Rule {
     // The radius of the square, and the function.
     ghost stencil: { Self → Stencil };
 
-    // What every rule owes: a radius of at most 11, and a height for every square of heights.
-    ghost fit: { (s : Self) → Fit (stencil s) };
-
     // How far the square reaches on each side of its centre.
     fn radius(&self) -> u8
         ensures { result ≡ (stencil self.now).radius };
@@ -17,4 +14,7 @@ pub trait Rule {
     fn answer(&self, square: &[u16]) -> u16
         requires { length square.now ≡ area (stencil self.now).radius }
         ensures { Whole (stencil self.now).radius square.now → result ≡ (stencil self.now).value square.now };
+
+    // What every rule owes: a radius of at most 11, and a height for every square of heights.
+    ghost fit: { (s : Self) → Fit (stencil s) };
 }

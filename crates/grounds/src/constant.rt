@@ -26,9 +26,7 @@ impl Constant {
 impl Field for Constant {
     ghost meaning = { λ s. constant (level_of s) };
 
-    ghost ordered = { λ _. Unit {0} };
-
-    ghost lawful = { λ s _. constant_lawful (level_of s) };
+    ghost lawful = { λ s. constant_lawful (level_of s) };
 
     fn ask(&mut self, at: Cell) -> Result<u16, Blank> {
         if at.is_inside() && self.height < BLANK {

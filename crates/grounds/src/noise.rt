@@ -40,9 +40,7 @@ impl Noise {
 impl Field for Noise {
     ghost meaning = { λ n. noise (seed_of n) };
 
-    ghost ordered = { λ _. Unit {0} };
-
-    ghost lawful = { λ n _. noise_lawful (seed_of n) };
+    ghost lawful = { λ n. noise_lawful (seed_of n) };
 
     fn ask(&mut self, at: Cell) -> Result<u16, Blank> {
         if at.is_inside() {

@@ -1,13 +1,13 @@
-// Why a window is not made.
+// Why a window is not made. Each has the number under which users know it.
 ghost use Rattle.std.specs.Prelude.{◌≡◌};
 ghost use Rattle.grid.specs.Refusals.{window_refusal};
 
 #[derive(Clone, Copy, Debug, PartialEq, Eq)]
 pub enum WindowRefusal {
     // The width or the height is 0 or above 57.
-    Size,
+    Size = 2,
     // Some cell of the rectangle is not inside the rim.
-    Rim,
+    Rim = 3,
 }
 
 impl WindowRefusal {
@@ -15,9 +15,6 @@ impl WindowRefusal {
     pub fn number(self) -> u8
         ensures { result ≡ window_refusal self }
     {
-        match self {
-            WindowRefusal::Size => 2,
-            WindowRefusal::Rim => 3,
-        }
+        self as u8
     }
 }
