@@ -1,14 +1,14 @@
 -- Filling a slot of a chunk table. Assumes nothing.
-use Rattle.std.proofs.Common.{◌≡◌, ℕ, ◌+◌, ◌*◌, ◌<◌, Bool, true, false, cond, eqb, ◌≢◌, List, length, get_or, set, replicate, Some, None, Ok, Err, Option, sym, refl, ap, ◌∙◌, subst, arith, get_or-set_other, get_or-set_same, below_more}
+use Rattle.std.proofs.Common.{◌≡◌, ℕ, ◌+◌, ◌*◌, ◌<◌, true, false, cond, eqb, ◌≢◌, List, length, get_or, set, replicate, Some, None, Ok, Err, Option, sym, refl, ap, ◌∙◌, subst, arith, get_or-set_other, get_or-set_same, below_more}
 use lib.ListN.{get_or-replicate}
 use Rattle.std.proofs.lemmas.Bool.{cond_both, cond-false, cond-true, eq-eqb, eqb-false, eqb-true, false≢true}
 use Rattle.grid.specs.declared.cell.Cell.{Cell}
 use Rattle.grid.specs.declared.chunk.Chunk.{Chunk}
 use Rattle.grid.specs.Meanings.{Answer, Meaning}
-use Rattle.grid.specs.Places.{cell_in, chunk_of, inside, place_of, same_chunk, slot_of}
+use Rattle.grid.specs.Places.{cell_in, chunk_of, place_of, same_chunk, slot_of}
 use Rattle.grid.proofs.Chunks.{cell_in_place, chunk_cell_in, place_cell_in, place_lt, same_chunk_refl, same_chunk_true, slot_lt}
 use Rattle.tables.specs.declared.table.Table.{Table}
-use Rattle.tables.specs.Tables.{Right, holding, holds, index_of, is_chunk, mark, stored, touch}
+use Rattle.tables.specs.Tables.{Right, height_of, holding, holds, index_of, is_chunk, mark, sparing, stored}
 
 -- ---- addresses
 
@@ -46,14 +46,8 @@ held_already t k j h =
 abbrev pub Holding : Chunk → Table → Table → Type 0
 Holding k t t' = (j : Chunk) → holds t' j ≡ holding k (holds t) j
 
-now_held : (k : Chunk) (t t' : Table) → Holding k t t' → holds t' k ≡ true
+pub now_held : (k : Chunk) (t t' : Table) → Holding k t t' → holds t' k ≡ true
 now_held k t t' h = h k ∙ cond-true (eqb (slot_of k) (slot_of k)) (same_chunk k k) (holds t k) (eq-eqb (slot_of k) (slot_of k) refl) ∙ same_chunk_refl k
-
-pub touched : (c : Cell) (t t' : Table) → inside c ≡ true → Holding (chunk_of c) t t' → (j : Chunk) → holds t' j ≡ touch c (holds t) j
-touched c t t' i h j = h j ∙ ap (λ (H : Chunk → Bool). H j) (sym (cond-true (inside c) (holding (chunk_of c) (holds t)) (holds t) i))
-
-pub untouched : (c : Cell) (t : Table) → inside c ≡ false → (j : Chunk) → holds t j ≡ touch c (holds t) j
-untouched c t i j = ap (λ (H : Chunk → Bool). H j) (sym (cond-false (inside c) (holding (chunk_of c) (holds t)) (holds t) i))
 
 -- ---- numbers
 
@@ -100,6 +94,35 @@ filled_all m k t all c e =
     let there : cell_in k (place_of c) ≡ c = ap (λ (j : Chunk). cell_in j (place_of c)) (sym e) ∙ cell_in_place c in
     subst (λ (d : Cell). stored t d ≡ mark (m d)) there (all (place_of c) (place_lt c))
 
+-- the chunks of t' are those of t but for the slot of k
+abbrev pub Sparing : Chunk → Table → Table → Type 0
+Sparing k t t' = (j : Chunk) → holds t' j ≡ sparing k (holds t) j
+
+-- what is held is not in an emptied slot, and was held before
+spared : (k : Chunk) (t t' : Table) (j : Chunk) → Sparing k t t' → holds t' j ≡ true → (slot_of j ≢ slot_of k) × (holds t j ≡ true)
+spared k t t' j v h =
+    cond_both (eqb (slot_of j) (slot_of k)) false (holds t j) (λ b. b ≡ true → (slot_of j ≢ slot_of k) × (holds t j ≡ true))
+    (λ _ f. absurd (false≢true f))
+    (λ e s. (eqb-false (slot_of j) (slot_of k) e, s))
+    (sym (v j) ∙ h)
+
+-- a table with an emptied slot is right
+pub right_spared : (m : Meaning) (k : Chunk) (t t' : Table) → Sparing k t t' → ((c : Cell) → stored t' c ≡ stored t c) → Right t m → Right t' m
+right_spared m k t t' v same right c h = same c ∙ right c (spared k t t' (chunk_of c) v h).1
+
+-- where its slot is empty, a number of k leaves a table right
+pub right_put : (m : Meaning) (k : Chunk) (p h : ℕ) (s t t' : Table) → p < 64 → Put (cell_in k p) h t t' → Sparing k s t → ((j : Chunk) → holds t' j ≡ holds t j) → Right t m → Right t' m
+right_put m k p h s t t' lt put v held right c there =
+    let before : holds t (chunk_of c) ≡ true = sym (held (chunk_of c)) ∙ there in
+    kept_more k p h t t t' lt put (λ _ _. refl) c (spared k s t (chunk_of c) v before).0 ∙ right c before
+
+-- to hold k in its emptied slot is to hold it in its slot
+pub held_in_place : (k : Chunk) (t t' t'' : Table) → Sparing k t t' → Holding k t' t'' → Holding k t t''
+held_in_place k t t' t'' v h j =
+    h j ∙ cond_both (eqb (slot_of j) (slot_of k)) (same_chunk k j) (holds t' j) (λ b. b ≡ holding k (holds t) j)
+    (λ e. sym (cond-true (eqb (slot_of j) (slot_of k)) (same_chunk k j) (holds t j) e))
+    (λ f. v j ∙ cond-false (eqb (slot_of j) (slot_of k)) false (holds t j) f ∙ sym (cond-false (eqb (slot_of j) (slot_of k)) (same_chunk k j) (holds t j) f))
+
 -- a fill leaves a table right
 pub right_filled : (m : Meaning) (k : Chunk) (t t' : Table) → Holding k t t' → ((c : Cell) → chunk_of c ≡ k → stored t' c ≡ mark (m c)) → Kept k t t' → Right t m → Right t' m
 right_filled m k t t' held fresh kept right c h =
@@ -108,10 +131,13 @@ right_filled m k t t' held fresh kept right c h =
     (λ e s. kept c (eqb-false (slot_of (chunk_of c)) (slot_of k) e) ∙ right c s)
     (sym (held (chunk_of c)) ∙ h)
 
-unmarked : (a : Answer) (n : ℕ) → n ≡ mark a → (n ≡ 65535 → ⊥) → Ok n ≡ a
-unmarked (Ok h) n e ne = ap Ok e
-unmarked (Err b) n e ne = absurd (ne e)
+-- ---- the answer
 
--- an unmarked number of a held cell is the answer
-pub answered : (m : Meaning) (c : Cell) (t t' : Table) (n : ℕ) → Holding (chunk_of c) t t' → Right t' m → n ≡ stored t' c → (n ≡ 65535 → ⊥) → Ok n ≡ m c
-answered m c t t' n h r e ne = unmarked (m c) n (e ∙ r c (now_held (chunk_of c) t t' h)) ne
+-- the height that stands for an answer, where there is one
+pub unmarked : (a : Answer) (h : ℕ) → Some h ≡ height_of (mark a) → ◌≡◌ {A = Answer} (Ok h) a
+unmarked (Ok n) h e =
+    cond_both (eqb n 65535) None (Some n) (λ (o : Option ℕ). Some h ≡ o → ◌≡◌ {A = Answer} (Ok h) (Ok n))
+    (λ _ f. let z : ◌≡◌ {A = ℕ} 0 1 = cc in absurd (omega arith))
+    (λ _ f. cc)
+    e
+unmarked (Err b) h e = let z : ◌≡◌ {A = ℕ} 0 1 = cc in absurd (omega arith)

@@ -1,27 +1,28 @@
 // A cache: a chunk table over any field, with the very meaning of that field.
-ghost use Rattle.std.specs.Prelude.{◌≡◌, true, false, ◌≢◌};
-ghost use Rattle.grid.specs.Places.{chunk_of, inside, slot_of};
+ghost use Rattle.std.specs.Prelude.{◌≡◌, true, false, not, ◌≢◌};
+ghost use Rattle.grid.specs.Places.{chunk_of, slot_of};
 ghost use Rattle.grid.specs.declared.cell.Cell.{Cell};
 ghost use Rattle.grid.specs.declared.chunk.Chunk.{Chunk};
-ghost use Rattle.tables.specs.Caches.{below_of, cache_lawful, cache_meaning, cache_ordered, table_of};
-ghost use Rattle.tables.specs.Tables.{holds, stored, touch};
+ghost use Rattle.tables.specs.Tables.{Right, holding, holds, stored};
 
 use crate::table::Table;
-use crate::through::ask_through;
 use grid::blank::Blank;
 use grid::cell::Cell;
 use grid::field::Field;
 
 #[derive(Drop)]
-pub struct Cache<F> {
+pub struct Cache<F: Field> {
     below: F,
     table: Table,
+    // Every number of a held chunk is the one for what the field below means.
+    ghost right: { Right table (F.Field.meaning below) },
 }
 
 impl<F: Field> Cache<F> {
+    ghost use Rattle.tables.specs.Caches.{below_of, cache_meaning, table_of};
+
     pub fn new(below: F) -> Cache<F>
-        ensures meaning { cache_meaning F.Field.meaning result ≡ F.Field.meaning below }
-        ensures order { F.Field.ordered below → cache_ordered F.Field.ordered F.Field.meaning result }
+        ensures field { below_of result ≡ below }
         ensures empty { (k : Chunk) → holds (table_of result) k ≡ false }
     {
         Cache {
@@ -29,25 +30,67 @@ impl<F: Field> Cache<F> {
             table: Table::new(),
         }
     }
+
+    // Asks all 64 cells of the chunk in which this cell lies, and overwrites its slot.
+    fn fill(&mut self, at: Cell)
+        ensures same { cache_meaning self.new ≡ cache_meaning self.old }
+        ensures held { (k : Chunk) → holds (table_of self.new) k ≡ holding (chunk_of at) (holds (table_of self.old)) k }
+        ensures others { (c : Cell) → (slot_of (chunk_of c) ≢ slot_of (chunk_of at)) → stored (table_of self.new) c ≡ stored (table_of self.old) c }
+    {
+        self.table.vacate(at.chunk());
+        for place in 0..64u8 {
+            let cell = at.chunk_cell(place);
+            let height = self.below.ask(cell).ok();
+            self.table.put(cell, height);
+        }
+        self.table.label(at.chunk());
+    }
+
+    // Sees to it that the chunk of this cell is held, and says whether that took a fill.
+    pub fn hold(&mut self, at: Cell) -> bool
+        ensures filled { result ≡ not (holds (table_of self.old) (chunk_of at)) }
+        ensures same { cache_meaning self.new ≡ cache_meaning self.old }
+        ensures held { (k : Chunk) → holds (table_of self.new) k ≡ holding (chunk_of at) (holds (table_of self.old)) k }
+        ensures others { (c : Cell) → (slot_of (chunk_of c) ≢ slot_of (chunk_of at)) → stored (table_of self.new) c ≡ stored (table_of self.old) c }
+        ensures stays { holds (table_of self.old) (chunk_of at) ≡ true → self.new ≡ self.old }
+    {
+        if self.table.has(at.chunk()) {
+            return false;
+        }
+        self.fill(at);
+        true
+    }
+
+    // Empties the table.
+    pub fn clear(&mut self)
+        ensures field { below_of self.new ≡ below_of self.old }
+        ensures empty { (k : Chunk) → holds (table_of self.new) k ≡ false }
+        ensures numbers { (c : Cell) → stored (table_of self.new) c ≡ stored (table_of self.old) c }
+    {
+        self.table.clear();
+    }
 }
 
 impl<F: Field> Field for Cache<F> {
-    ghost meaning = { cache_meaning F.Field.meaning };
+    ghost use Rattle.tables.specs.Caches.{Through, cache_lawful, cache_meaning};
 
-    ghost ordered = { cache_ordered F.Field.ordered F.Field.meaning };
+    ghost meaning = { cache_meaning };
 
-    ghost lawful = { cache_lawful F.Field.meaning F.Field.ordered F.Field.lawful };
+    ghost lawful = { cache_lawful F.Field.lawful };
 
+    // Answers a height from the table where that has one.
     fn ask(&mut self, at: Cell) -> Result<u16, Blank>
-        ensures answer { cache_ordered F.Field.ordered F.Field.meaning self.old → result ≡ cache_meaning F.Field.meaning self.old at }
-        ensures same { cache_ordered F.Field.ordered F.Field.meaning self.old → cache_meaning F.Field.meaning self.new ≡ cache_meaning F.Field.meaning self.old }
-        ensures order { cache_ordered F.Field.ordered F.Field.meaning self.old → cache_ordered F.Field.ordered F.Field.meaning self.new }
-        ensures held { (k : Chunk) → holds (table_of self.new) k ≡ touch at (holds (table_of self.old)) k }
-        ensures beyond { inside at ≡ false → (below_of self.new ≡ below_of self.old) × (table_of self.new ≡ table_of self.old) }
-        ensures others { (c : Cell) → (slot_of (chunk_of c) ≢ slot_of (chunk_of at)) → stored (table_of self.new) c ≡ stored (table_of self.old) c }
-        ensures kept { holds (table_of self.old) (chunk_of at) ≡ true → table_of self.new ≡ table_of self.old }
-        ensures hit { holds (table_of self.old) (chunk_of at) ≡ true → (stored (table_of self.old) at ≢ 65535) → below_of self.new ≡ below_of self.old }
+        ensures answer { result ≡ cache_meaning self.old at }
+        ensures same { cache_meaning self.new ≡ cache_meaning self.old }
+        ensures through { Through at self.old self.new }
     {
-        ask_through(&mut self.below, &mut self.table, at)
+        if !at.is_inside() {
+            return Err(Blank::new(at));
+        }
+        let _ = self.hold(at);
+        match self.table.get(at) {
+            Some(height) => Ok(height),
+            None => self.below.ask(at),
+        }
     }
 }

@@ -3,4 +3,3 @@
 
 pub mod cache;
 pub mod table;
-pub mod through;

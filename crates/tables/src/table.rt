@@ -2,7 +2,7 @@
 ghost use Rattle.std.specs.Prelude.{◌≡◌, ◌<◌, false, ◌≢◌};
 ghost use Rattle.grid.specs.declared.cell.Cell.{Cell};
 ghost use Rattle.grid.specs.declared.chunk.Chunk.{Chunk};
-ghost use Rattle.tables.specs.Tables.{holding, holds, index_of, stored};
+ghost use Rattle.tables.specs.Tables.{holding, holds, index_of, sparing, stored, number_for, height_of};
 
 use grid::cell::Cell;
 use grid::chunk::Chunk;
@@ -10,6 +10,7 @@ use grid::chunk::Chunk;
 // What stands in a table for a blank. No height is as great.
 pub const MARK: u16 = 65_535;
 
+// The heights are one array of fixed size, without the heap, as the project wants them; so the addresses stand beside it.
 #[derive(Drop)]
 pub struct Table {
     // The numbers of the chunk in slot s stand from 64 s on, in reading order.
@@ -47,26 +48,32 @@ impl Table {
     pub fn has(&self, chunk: Chunk) -> bool
         ensures { result ≡ holds self.now chunk }
     {
-        match self.chunks[chunk.slot()] {
-            Some(held) => held.is(chunk),
-            None => false,
-        }
+        self.chunks[chunk.slot()].is_some_and(|held| held.is(chunk))
     }
 
-    // The number that stands where that of this cell belongs.
-    pub fn get(&self, at: Cell) -> u16
-        ensures { result ≡ stored self.now at }
+    // The height that stands where that of this cell belongs, or none where the mark does.
+    pub fn get(&self, at: Cell) -> Option<u16>
+        ensures { result ≡ height_of (stored self.now at) }
     {
-        self.heights[index(at)]
+        let number = self.heights[index(at)];
+        (number != MARK).then_some(number)
     }
 
-    pub(crate) fn put(&mut self, at: Cell, number: u16)
-        ensures here { stored self.new at ≡ number }
+    // Writes a height, or the mark, where that of this cell belongs.
+    pub(crate) fn put(&mut self, at: Cell, height: Option<u16>)
+        ensures here { stored self.new at ≡ number_for height }
         ensures others { (c : Cell) → (index_of c ≢ index_of at) → stored self.new c ≡ stored self.old c }
         ensures held { (k : Chunk) → holds self.new k ≡ holds self.old k }
     {
-        let index = index(at);
-        self.heights[index] = number;
+        self.heights[index(at)] = height.unwrap_or(MARK);
+    }
+
+    // Empties the slot of a chunk.
+    pub(crate) fn vacate(&mut self, chunk: Chunk)
+        ensures numbers { (c : Cell) → stored self.new c ≡ stored self.old c }
+        ensures held { (k : Chunk) → holds self.new k ≡ sparing chunk (holds self.old) k }
+    {
+        self.chunks[chunk.slot()] = None;
     }
 
     // Writes the address of a chunk whose numbers are there.
