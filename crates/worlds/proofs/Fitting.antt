@@ -3,15 +3,16 @@ use Rattle.std.proofs.Common.{◌≡◌, Bool, true, false, cond, eqb, ◌⊎◌
 use Rattle.std.proofs.lemmas.Bool.{cond_both, eqb-false, eqb-true, false≢true}
 use Rattle.grid.specs.declared.cell.Cell.{Cell}
 use Rattle.grid.specs.declared.chunk.Chunk.{Chunk}
+use Rattle.grid.specs.declared.field.Field.{Ghosts}
 use Rattle.grid.specs.Meanings.{Answer, Meaning}
 use Rattle.grid.specs.Places.{chunk_of, inside, same_chunk, slot_of}
 use Rattle.grid.proofs.Chunks.{same_chunk_refl, same_chunk_true}
-use Rattle.tables.specs.Tables.{Through, holding, mark, touch}
+use Rattle.tables.specs.Tables.{holding, touch}
 use Rattle.worlds.specs.declared.event.Event.{Event}
 use Rattle.worlds.specs.declared.event.Event.TheVariants.{Asked, Cleared}
 use Rattle.worlds.specs.declared.world.World.{World}
 use Rattle.worlds.specs.Journals.{HeldSince, Journal, Spares, Touches}
-use Rattle.worlds.specs.Worlds.{Fits, below_of, held_by, table_of, world_ordered}
+use Rattle.worlds.specs.Worlds.{Fits, below_of, held_by, world_meaning}
 use Rattle.worlds.proofs.Histories.{held_both, held_clear}
 
 module _ (q k : Chunk) (H : Chunk → Bool) where
@@ -38,42 +39,44 @@ module _ (q k : Chunk) (H : Chunk → Bool) where
     λ s. ⊎_elim (λ l. ⊎_elim (λ z. absurd (false≢true z.0.0)) (λ z. absurd z) l) (λ p. p.0) s,
   )
 
+twice : (d s h i : Bool) → i ≡ cond d s h → cond d s i ≡ cond d s h
+twice true s h i e = refl
+twice false s h i e = e
+
 -- what is held after one asked cell
 pub touch_held : (c : Cell) (a : Answer) (H : Chunk → Bool) (k : Chunk) → (touch c H k ≡ true) ↔ HeldSince (λ j. H j ≡ true) (Asked c a ∷ []) k
 touch_held c a H k = after (chunk_of c) k H (inside c)
 
-module _ {F : Type 0} (meaning : F → Meaning) (ordered : F → Type 0) where
-  pub ordered_asked : (c : Cell) (w x : World F) → Through meaning ordered c (below_of w) (table_of w) (below_of x) (table_of x) →
-      world_ordered meaning ordered w → world_ordered meaning ordered x
-  ordered_asked c w x t o = (t.order o.0, λ d h. t.right o.0 o.1 d h ∙ ap (λ (m : Meaning). mark (m d)) (sym (t.same o.0)))
+-- to ask the cell again changes nothing more
+again : (b : Bool) (q k : Chunk) (H I : Chunk → Bool) → I k ≡ cond b (holding q H) H k → cond b (holding q I) I k ≡ cond b (holding q H) H k
+again true q k H I e = twice (eqb (slot_of k) (slot_of q)) (same_chunk q k) (H k) (I k) e
+again false q k H I e = e
 
-  pub fits_asked : (m : Meaning) (c : Cell) (a : Answer) (w x : World F) (j : Journal) →
-      Through meaning ordered c (below_of w) (table_of w) (below_of x) (table_of x) → Fits meaning ordered m w j → Fits meaning ordered m x (j ++ Asked c a ∷ [])
-  fits_asked m c a w x j t f = record {
-    order = ordered_asked c w x t f.order;
-    means = t.same f.order.0 ∙ f.means;
+pub touch_again : (c : Cell) (k : Chunk) (H I : Chunk → Bool) → I k ≡ touch c H k → touch c I k ≡ touch c H k
+touch_again c k H I e = again (inside c) (chunk_of c) k H I e
+
+module _ {F : Type 0} {g : Ghosts F} where
+  pub fits_asked : (m : Meaning) (c : Cell) (a : Answer) (w x : World F g) (j : Journal) →
+      world_meaning x ≡ world_meaning w → ((k : Chunk) → held_by x k ≡ touch c (held_by w) k) → Fits m w j → Fits m x (j ++ Asked c a ∷ [])
+  fits_asked m c a w x j same held f = record {
+    means = same ∙ f.means;
     held = λ k. (
-      λ h. (held_both k j (Asked c a ∷ [])).1 (⊎_elim inl (λ p. inr ((f.held k).0 p.0, p.1)) ((touch_held c a (held_by w) k).0 (sym (t.held k) ∙ h))),
-      λ h. t.held k ∙ (touch_held c a (held_by w) k).1 (⊎_elim inl (λ p. inr ((f.held k).1 p.0, p.1)) ((held_both k j (Asked c a ∷ [])).0 h)),
+      λ h. (held_both k j (Asked c a ∷ [])).1 (⊎_elim inl (λ p. inr ((f.held k).0 p.0, p.1)) ((touch_held c a (held_by w) k).0 (sym (held k) ∙ h))),
+      λ h. held k ∙ (touch_held c a (held_by w) k).1 (⊎_elim inl (λ p. inr ((f.held k).1 p.0, p.1)) ((held_both k j (Asked c a ∷ [])).0 h)),
     );
   }
 
-  pub ordered_clear : (w x : World F) → below_of x ≡ below_of w → ((k : Chunk) → held_by x k ≡ false) → world_ordered meaning ordered w → world_ordered meaning ordered x
-  ordered_clear w x b empty o = (subst ordered (sym b) o.0, λ d h. absurd (false≢true (sym (empty (chunk_of d)) ∙ h)))
-
-  pub fits_clear : (m : Meaning) (w x : World F) (j : Journal) → below_of x ≡ below_of w → ((k : Chunk) → held_by x k ≡ false) →
-      Fits meaning ordered m w j → Fits meaning ordered m x (j ++ Cleared ∷ [])
+  pub fits_clear : (m : Meaning) (w x : World F g) (j : Journal) → below_of x ≡ below_of w → ((k : Chunk) → held_by x k ≡ false) →
+      Fits m w j → Fits m x (j ++ Cleared ∷ [])
   fits_clear m w x j b empty f = record {
-    order = ordered_clear w x b empty f.order;
-    means = ap meaning b ∙ f.means;
+    means = ap g.meaning b ∙ f.means;
     held = λ k. (λ h. absurd (false≢true (sym (empty k) ∙ h)), λ h. absurd (held_clear k j h));
   }
 
   -- an event that touches nothing and spares everything
-  pub fits_idle : (m : Meaning) (w : World F) (j : Journal) (e : Event) → ((k : Chunk) → Touches k e → ⊥) → ((k : Chunk) → Spares k e) →
-      Fits meaning ordered m w j → Fits meaning ordered m w (j ++ e ∷ [])
+  pub fits_idle : (m : Meaning) (w : World F g) (j : Journal) (e : Event) → ((k : Chunk) → Touches k e → ⊥) → ((k : Chunk) → Spares k e) →
+      Fits m w j → Fits m w (j ++ e ∷ [])
   fits_idle m w j e quiet spares f = record {
-    order = f.order;
     means = f.means;
     held = λ k. (
       λ h. (held_both k j (e ∷ [])).1 (inr ((f.held k).0 h, (spares k, tt))),

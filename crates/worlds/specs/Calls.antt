@@ -1,14 +1,15 @@
 -- What the calls on worlds and drawings say, part by part. Assumes nothing.
---     Looks m o at w r x      a look at the cell `at` of the world w answers r and leaves the world x
---     Writes m o d out r e p  writing the next row of the drawing d into the caller's row `out` answers r and leaves e and p; the next row is still the same
---     Rows m o d out r e p    a call of `row` on d with `out` answers r and leaves e and p
---     Finishes m o d w n      finishing d gives back the world w and the number n of fills
+--     Looks at w r x      a look at the cell `at` of the world w answers r and leaves the world x
+--     Writes d out r e p  writing the next row of the drawing d into the caller's row `out` answers r and leaves e and p; the next row is still the same
+--     Rows d out r e p    a call of `row` on d with `out` answers r and leaves e and p
+--     Finishes d w n      finishing d gives back the world w and the number n of fills
 use Rattle.std.specs.Prelude.{◌≡◌, ℕ, ◌≤◌, true, ◌⊎◌, List, [], ◌∷◌, ◌++◌, length, Err, Result}
 use Rattle.grid.specs.declared.cell.Cell.{Cell}
 use Rattle.grid.specs.declared.chunk.Chunk.{Chunk}
+use Rattle.grid.specs.declared.field.Field.{Ghosts}
 use Rattle.grid.specs.Counts.{Counts}
 use Rattle.grid.specs.Meanings.{Meaning}
-use Rattle.tables.specs.Tables.{Through}
+use Rattle.tables.specs.Caches.{Through}
 use Rattle.worlds.specs.declared.drawing.Drawing.{Drawing}
 use Rattle.worlds.specs.declared.event.Event.TheVariants.{Asked, Begun, Finished}
 use Rattle.worlds.specs.declared.refusal.BlankFault.{BlankFault}
@@ -18,41 +19,40 @@ use Rattle.worlds.specs.Drawings.{GoesOn, Underway, fills_of, next_of, window_of
 use Rattle.worlds.specs.Journals.{Held, Journal, Missing, Touched}
 use Rattle.worlds.specs.Refusals.{looked}
 use Rattle.worlds.specs.Rows.{Answers, Past, Placed, RowAnswer, asked, next_after, row_told, told_by}
-use Rattle.worlds.specs.Worlds.{Fits, below_of, held_by, table_of, world_meaning, world_ordered}
+use Rattle.worlds.specs.Worlds.{Fits, cache_of, held_by, world_meaning}
 
-module _ {F : Type 0} (meaning : F → Meaning) (ordered : F → Type 0) where
-  pub record Looks (at : Cell) (w : World F) (r : Result ℕ BlankFault) (x : World F) : Type 0 where
-    pub answer : world_ordered meaning ordered w → r ≡ looked at (world_meaning meaning w at)
-    pub same : world_ordered meaning ordered w → world_meaning meaning x ≡ world_meaning meaning w
-    pub order : world_ordered meaning ordered w → world_ordered meaning ordered x
-    pub table : Through meaning ordered at (below_of w) (table_of w) (below_of x) (table_of x)
-    pub history : (m : Meaning) (j : Journal) → Fits meaning ordered m w j → Fits meaning ordered m x (j ++ Asked at (m at) ∷ [])
+module _ {F : Type 0} {g : Ghosts F} where
+  pub record Looks (at : Cell) (w : World F g) (r : Result ℕ BlankFault) (x : World F g) : Type 0 where
+    pub answer : r ≡ looked at (world_meaning w at)
+    pub same : world_meaning x ≡ world_meaning w
+    pub table : Through at (cache_of w) (cache_of x)
+    pub history : (m : Meaning) (j : Journal) → Fits m w j → Fits m x (j ++ Asked at (m at) ∷ [])
 
-  pub record Writes (d : Drawing F) (out : List ℕ) (r : RowAnswer) (e : Drawing F) (p : List ℕ) : Type 0 where
+  pub record Writes (d : Drawing F g) (out : List ℕ) (r : RowAnswer) (e : Drawing F g) (p : List ℕ) : Type 0 where
     pub placed : Placed (window_of d) (next_of d) (length out) r
-    pub answer : world_ordered meaning ordered (world_of d) → Answers (world_meaning meaning (world_of d)) (window_of d) (next_of d) r p
+    pub answer : Answers (world_meaning (world_of d)) (window_of d) (next_of d) r p
     pub past : Past (window_of d) r out p
     pub next : next_of e ≡ next_of d
-    pub goes : (m : Meaning) → GoesOn meaning ordered d (row_told m (window_of d) (next_of d) (asked (window_of d) r)) e
+    pub goes : (m : Meaning) → GoesOn d (row_told m (window_of d) (next_of d) (asked (window_of d) r)) e
 
-  pub record Rows (d : Drawing F) (out : List ℕ) (r : RowAnswer) (e : Drawing F) (p : List ℕ) : Type 0 where
+  pub record Rows (d : Drawing F g) (out : List ℕ) (r : RowAnswer) (e : Drawing F g) (p : List ℕ) : Type 0 where
     -- when each refusal comes, and where a blank lies
     pub placed : Placed (window_of d) (next_of d) (length out) r
     -- the heights and the blank are those of the field; what lies past them is as it was
-    pub answer : world_ordered meaning ordered (world_of d) → Answers (world_meaning meaning (world_of d)) (window_of d) (next_of d) r p
+    pub answer : Answers (world_meaning (world_of d)) (window_of d) (next_of d) r p
     pub past : Past (window_of d) r out p
     pub next : next_of e ≡ next_after r (next_of d)
     -- a refusal for want of rows or of room leaves everything as it was
     pub stays : (r ≡ Err Full) ⊎ (r ≡ Err Short) → (e ≡ d) × (p ≡ out)
     -- what the world holds, and the fills
-    pub goes : (m : Meaning) → GoesOn meaning ordered d (told_by m (window_of d) (next_of d) r) e
-    pub history : (m : Meaning) (before during : Journal) → Underway meaning ordered m d before during → Underway meaning ordered m e before (during ++ told_by m (window_of d) (next_of d) r)
+    pub goes : (m : Meaning) → GoesOn d (told_by m (window_of d) (next_of d) r) e
+    pub history : (m : Meaning) (before during : Journal) → Underway m d before during → Underway m e before (during ++ told_by m (window_of d) (next_of d) r)
 
-  pub record Finishes (d : Drawing F) (w : World F) (n : ℕ) : Type 0 where
+  pub record Finishes (d : Drawing F g) (w : World F g) (n : ℕ) : Type 0 where
     pub world : w ≡ world_of d
     pub fills : n ≡ fills_of d
     -- each chunk that the drawing touched and its world lacked at the begin, once; and all it touched are held
-    pub exact : (m : Meaning) (before during : Journal) → Underway meaning ordered m d before during → Counts n (Missing (Held before) during)
-    pub holds : (m : Meaning) (before during : Journal) → Underway meaning ordered m d before during → (k : Chunk) → Touched during k → held_by w k ≡ true
-    pub few : (m : Meaning) (before during : Journal) → Underway meaning ordered m d before during → n ≤ 64
-    pub history : (m : Meaning) (before during : Journal) → Underway meaning ordered m d before during → Fits meaning ordered m w (before ++ Begun (window_of d) ∷ (during ++ Finished n ∷ []))
+    pub exact : (m : Meaning) (before during : Journal) → Underway m d before during → Counts n (Missing (Held before) during)
+    pub holds : (m : Meaning) (before during : Journal) → Underway m d before during → (k : Chunk) → Touched during k → held_by w k ≡ true
+    pub few : (m : Meaning) (before during : Journal) → Underway m d before during → n ≤ 64
+    pub history : (m : Meaning) (before during : Journal) → Underway m d before during → Fits m w (before ++ Begun (window_of d) ∷ (during ++ Finished n ∷ []))

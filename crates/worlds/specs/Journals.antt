@@ -27,7 +27,7 @@ Touches k (Asked c a) = (inside c ≡ true) × (chunk_of c ≡ k)
 Touches k Cleared = ⊥
 Touches k (Begun v) = ⊥
 Touches k Wrote = ⊥
-Touches k (Refused n) = ⊥
+Touches k (Refused r) = ⊥
 Touches k (Finished n) = ⊥
 Touches k Passed = ⊥
 
@@ -36,7 +36,7 @@ Spares k (Asked c a) = inside c ≡ true → slot_of (chunk_of c) ≡ slot_of k 
 Spares k Cleared = ⊥
 Spares k (Begun v) = Unit {0}
 Spares k Wrote = Unit {0}
-Spares k (Refused n) = Unit {0}
+Spares k (Refused r) = Unit {0}
 Spares k (Finished n) = Unit {0}
 Spares k Passed = Unit {0}
 
@@ -62,7 +62,7 @@ InDrawing v (Asked c a) = OfWindow v c
 InDrawing v Cleared = ⊥
 InDrawing v (Begun w) = ⊥
 InDrawing v Wrote = Unit {0}
-InDrawing v (Refused n) = Unit {0}
+InDrawing v (Refused r) = Unit {0}
 InDrawing v (Finished n) = ⊥
 InDrawing v Passed = Unit {0}
 

@@ -10,6 +10,7 @@ use Rattle.grid.specs.Places.{chunk_of, inside, slot_of}
 use Rattle.grid.specs.Windows.{Touches as WindowTouches}
 use Rattle.worlds.specs.declared.event.Event.{Event}
 use Rattle.worlds.specs.declared.event.Event.TheVariants.{Asked, Cleared, Begun, Wrote, Refused, Finished, Passed}
+use Rattle.worlds.specs.declared.refusal.RowRefusal.{RowRefusal}
 use Rattle.worlds.specs.Journals.{Held, Journal}
 
 -- the event changes nothing of what is held
@@ -26,7 +27,7 @@ pub record Holding : Type 0 where
   pub beyond : (c : Cell) (a : Answer) → inside c ≡ false → ChangesNothing (Asked c a)
   pub begun : (v : Window) → ChangesNothing (Begun v)
   pub wrote : ChangesNothing Wrote
-  pub refused : (n : ℕ) → ChangesNothing (Refused n)
+  pub refused : (r : RowRefusal) → ChangesNothing (Refused r)
   pub finished : (n : ℕ) → ChangesNothing (Finished n)
   pub passed : ChangesNothing Passed
 

@@ -2,8 +2,7 @@
 --     fault_refusal       the number of every refusal of a blank cell
 --     row_refusal e       why a row is not written
 --     looked c a          what a look at c gives where the field answers a
---     FaultsAt c r        if the answer is a fault, then c was asked
-use Rattle.std.specs.Prelude.{◌≡◌, ℕ, Ok, Err, Result}
+use Rattle.std.specs.Prelude.{ℕ, Ok, Err, Result}
 use Rattle.grid.specs.declared.cell.Cell.{Cell}
 use Rattle.grid.specs.Meanings.{Answer}
 use Rattle.worlds.specs.declared.refusal.BlankFault.{BlankFault}
@@ -21,7 +20,3 @@ row_refusal (Blank f) = fault_refusal
 abbrev pub looked : Cell → Answer → Result ℕ BlankFault
 looked c (Ok h) = Ok h
 looked c (Err b) = Err (record { cell = c; blank = b })
-
-abbrev pub FaultsAt : Cell → Result ℕ BlankFault → Type 0
-FaultsAt c (Ok h) = Unit {0}
-FaultsAt c (Err f) = f.cell ≡ c

@@ -18,7 +18,6 @@ use Rattle.worlds.specs.declared.refusal.BlankFault.{BlankFault}
 use Rattle.worlds.specs.declared.refusal.RowRefusal.{RowRefusal}
 use Rattle.worlds.specs.declared.refusal.RowRefusal.TheVariants.{Full, Short, Blank}
 use Rattle.worlds.specs.Journals.{Journal}
-use Rattle.worlds.specs.Refusals.{row_refusal}
 
 abbrev pub RowAnswer : Type 0
 RowAnswer = Result (Unit {0}) RowRefusal
@@ -69,8 +68,8 @@ row_told m v j n = map (λ i. Asked (cell_of v i j) (m (cell_of v i j))) (range_
 abbrev pub ending : RowAnswer → Journal
 ending (Ok u) = Wrote ∷ []
 ending (Err (Blank f)) = []
-ending (Err Full) = Refused (row_refusal Full) ∷ []
-ending (Err Short) = Refused (row_refusal Short) ∷ []
+ending (Err Full) = Refused Full ∷ []
+ending (Err Short) = Refused Short ∷ []
 
 abbrev pub told_by : Meaning → Window → ℕ → RowAnswer → Journal
 told_by m v j r = row_told m v j (asked v r) ++ ending r

@@ -5,9 +5,9 @@ ghost use Rattle.grid.specs.Windows.{height_of, width_of};
 ghost use Rattle.worlds.specs.Calls.{Finishes, Rows, Writes};
 ghost use Rattle.worlds.specs.Drawings.{GoesOn, Underway, fills_of, next_of, window_of, world_of};
 ghost use Rattle.worlds.specs.Journals.{Journal, OfWindow};
-ghost use Rattle.worlds.specs.Refusals.{FaultsAt, looked};
+ghost use Rattle.worlds.specs.Refusals.{looked};
 ghost use Rattle.worlds.specs.Rows.{as_row};
-ghost use Rattle.worlds.specs.Worlds.{Fits, world_meaning, world_ordered};
+ghost use Rattle.worlds.specs.Worlds.{Fits, world_meaning};
 ghost use Rattle.worlds.specs.declared.event.Event.TheVariants.{Asked};
 
 use crate::refusal::{BlankFault, RowRefusal};
@@ -19,7 +19,7 @@ use grid::window::Window;
 mod parts;
 
 #[derive(Drop)]
-pub struct Drawing<F> {
+pub struct Drawing<F: Field> {
     world: World<F>,
     window: Window,
     // The row to be written next, counted from 0.
@@ -33,7 +33,7 @@ impl<F: Field> World<F> {
     pub fn begin(self, window: Window) -> Drawing<F>
         ensures world { world_of result ≡ self }
         ensures start { (window_of result ≡ window) × ((next_of result ≡ 0) × (fills_of result ≡ 0)) }
-        ensures history { (m : Meaning) (j : Journal) → Fits F.Field.meaning F.Field.ordered m self j → Underway F.Field.meaning F.Field.ordered m result j [] }
+        ensures history { (m : Meaning) (j : Journal) → Fits m self j → Underway m result j [] }
     {
         Drawing {
             world: self,
@@ -47,20 +47,19 @@ impl<F: Field> World<F> {
 impl<F: Field> Drawing<F> {
     // The height of one cell of the window.
     fn ask(&mut self, at: Cell) -> Result<u16, BlankFault>
-        ensures answer { world_ordered F.Field.meaning F.Field.ordered (world_of self.old) → result ≡ looked at (world_meaning F.Field.meaning (world_of self.old) at) }
-        ensures cell { FaultsAt at result }
+        ensures answer { result ≡ looked at (world_meaning (world_of self.old) at) }
         ensures next { next_of self.new ≡ next_of self.old }
-        ensures goes { OfWindow (window_of self.old) at → (m : Meaning) → GoesOn F.Field.meaning F.Field.ordered self.old (Asked at (m at) ∷ []) self.new }
+        ensures goes { OfWindow (window_of self.old) at → (m : Meaning) → GoesOn self.old (Asked at (m at) ∷ []) self.new }
     {
-        let (answer, filled) = self.world.ask(at);
+        let filled = self.world.hold(at);
         self.fills = self.fills.saturating_add(u32::from(filled));
-        answer
+        self.world.look(at)
     }
 
     // Writes the next row as far as its cells have heights.
     fn write(&mut self, out: &mut [u16]) -> Result<(), BlankFault>
         requires { (next_of self.old < height_of (window_of self.old)) × (width_of (window_of self.old) ≤ length out.old) }
-        ensures { Writes F.Field.meaning F.Field.ordered self.old out.old (as_row result) self.new out.new }
+        ensures { Writes self.old out.old (as_row result) self.new out.new }
     {
         let window = self.window;
         let row = self.next;
@@ -75,7 +74,7 @@ impl<F: Field> Drawing<F> {
 
     // Writes the next row of the window into `out`, and leaves what lies past it.
     pub fn row(&mut self, out: &mut [u16]) -> Result<(), RowRefusal>
-        ensures { Rows F.Field.meaning F.Field.ordered self.old out.old result self.new out.new }
+        ensures { Rows self.old out.old result self.new out.new }
     {
         if self.next >= self.window.height() {
             return Err(RowRefusal::Full);
@@ -90,7 +89,7 @@ impl<F: Field> Drawing<F> {
 
     // Gives the world back, and how many chunks its table took in since the drawing began.
     pub fn finish(self) -> (World<F>, u32)
-        ensures { Finishes F.Field.meaning F.Field.ordered self result.0 result.1 }
+        ensures { Finishes self result.0 result.1 }
     {
         let Drawing {
             world,

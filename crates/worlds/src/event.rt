@@ -1,4 +1,5 @@
 // What happens to a world, event by event. A list of these, in the order in which they happened, is a journal.
+use crate::refusal::RowRefusal;
 use grid::blank::Blank;
 use grid::cell::Cell;
 use grid::window::Window;
@@ -13,8 +14,8 @@ pub enum Event {
     Begun(Window),
     // A row was written whole.
     Wrote,
-    // A row was refused with this number and asked nothing.
-    Refused(u8),
+    // A row was refused and asked nothing.
+    Refused(RowRefusal),
     // The drawing ended, with so many fills.
     Finished(u32),
     // A call of a track could not be made and was passed over.

@@ -4,23 +4,21 @@ ghost use Rattle.grid.specs.declared.cell.Cell.{Cell};
 ghost use Rattle.grid.specs.declared.chunk.Chunk.{Chunk};
 ghost use Rattle.grid.specs.Meanings.{Meaning};
 ghost use Rattle.grid.specs.Places.{chunk_of, inside};
-ghost use Rattle.tables.specs.Tables.{Through, stored};
+ghost use Rattle.tables.specs.Tables.{stored, touch};
 ghost use Rattle.worlds.specs.Calls.{Looks};
 ghost use Rattle.worlds.specs.Journals.{Journal};
-ghost use Rattle.worlds.specs.Refusals.{FaultsAt, looked};
-ghost use Rattle.worlds.specs.Worlds.{Fits, below_of, held_by, table_of, world_meaning, world_ordered};
+ghost use Rattle.worlds.specs.Worlds.{Fits, below_of, held_by, table_of, world_meaning};
 ghost use Rattle.worlds.specs.declared.event.Event.TheVariants.{Cleared};
 
 use crate::refusal::BlankFault;
 use grid::cell::Cell;
 use grid::field::Field;
-use tables::table::Table;
-use tables::through::ask_and_tell;
+use tables::cache::Cache;
 
+// The table is that of a cache, which keeps it right.
 #[derive(Drop)]
-pub struct World<F> {
-    below: F,
-    table: Table,
+pub struct World<F: Field> {
+    cache: Cache<F>,
 }
 
 impl<F: Field> World<F> {
@@ -28,35 +26,28 @@ impl<F: Field> World<F> {
     pub fn open(below: F) -> World<F>
         ensures field { below_of result ≡ below }
         ensures empty { (k : Chunk) → held_by result k ≡ false }
-        ensures order { F.Field.ordered below → world_ordered F.Field.meaning F.Field.ordered result }
-        ensures history { F.Field.ordered below → Fits F.Field.meaning F.Field.ordered (F.Field.meaning below) result [] }
+        ensures history { Fits (F.Field.meaning below) result [] }
     {
         World {
-            below,
-            table: Table::new(),
+            cache: Cache::new(below),
         }
     }
 
     // The height of a cell.
     pub fn look(&mut self, at: Cell) -> Result<u16, BlankFault>
-        ensures { Looks F.Field.meaning F.Field.ordered at self.old result self.new }
+        ensures { Looks at self.old result self.new }
     {
-        let (answer, _) = self.ask(at);
-        answer
+        let answer = self.cache.ask(at);
+        answer.map_err(|blank| BlankFault { cell: at, blank })
     }
 
-    // The height of a cell, and whether that took a fill.
-    pub(crate) fn ask(&mut self, at: Cell) -> (Result<u16, BlankFault>, bool)
-        ensures answer { world_ordered F.Field.meaning F.Field.ordered self.old → result.0 ≡ looked at (world_meaning F.Field.meaning self.old at) }
-        ensures cell { FaultsAt at result.0 }
-        ensures filled { result.1 ≡ (inside at && not (held_by self.old (chunk_of at))) }
-        ensures table { Through F.Field.meaning F.Field.ordered at (below_of self.old) (table_of self.old) (below_of self.new) (table_of self.new) }
+    // Sees to it that the chunk of a cell inside the rim is held, and says whether that took a fill.
+    pub(crate) fn hold(&mut self, at: Cell) -> bool
+        ensures filled { result ≡ (inside at && not (held_by self.old (chunk_of at))) }
+        ensures same { world_meaning self.new ≡ world_meaning self.old }
+        ensures held { (k : Chunk) → held_by self.new k ≡ touch at (held_by self.old) k }
     {
-        let (answer, filled) = ask_and_tell(&mut self.below, &mut self.table, at);
-        match answer {
-            Ok(height) => (Ok(height), filled),
-            Err(blank) => (Err(BlankFault { cell: at, blank }), filled),
-        }
+        at.is_inside() && self.cache.hold(at)
     }
 
     // Empties the table.
@@ -64,9 +55,8 @@ impl<F: Field> World<F> {
         ensures field { below_of self.new ≡ below_of self.old }
         ensures empty { (k : Chunk) → held_by self.new k ≡ false }
         ensures numbers { (c : Cell) → stored (table_of self.new) c ≡ stored (table_of self.old) c }
-        ensures order { world_ordered F.Field.meaning F.Field.ordered self.old → world_ordered F.Field.meaning F.Field.ordered self.new }
-        ensures history { (m : Meaning) (j : Journal) → Fits F.Field.meaning F.Field.ordered m self.old j → Fits F.Field.meaning F.Field.ordered m self.new (j ++ Cleared ∷ []) }
+        ensures history { (m : Meaning) (j : Journal) → Fits m self.old j → Fits m self.new (j ++ Cleared ∷ []) }
     {
-        self.table.clear();
+        self.cache.clear();
     }
 }

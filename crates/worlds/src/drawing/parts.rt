@@ -3,9 +3,10 @@ ghost use Rattle.std.specs.Prelude.{◌≡◌};
 ghost use Rattle.worlds.specs.Drawings.{next_of, window_of};
 
 use super::Drawing;
+use grid::field::Field;
 use grid::window::Window;
 
-impl<F> Drawing<F> {
+impl<F: Field> Drawing<F> {
     pub fn window(&self) -> Window
         ensures { result ≡ window_of self.now }
     {

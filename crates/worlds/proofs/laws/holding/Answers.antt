@@ -28,7 +28,7 @@ returns c = record {
   beyond = λ at a out. idle (Asked at a) (λ k t. false≢true (sym out ∙ t.0)) (λ k rim. absurd (false≢true (sym out ∙ rim)));
   begun = λ v. idle (Begun v) (λ k t. t) (λ k. tt);
   wrote = idle Wrote (λ k t. t) (λ k. tt);
-  refused = λ n. idle (Refused n) (λ k t. t) (λ k. tt);
+  refused = λ r. idle (Refused r) (λ k t. t) (λ k. tt);
   finished = λ n. idle (Finished n) (λ k t. t) (λ k. tt);
   passed = idle Passed (λ k t. t) (λ k. tt);
 }

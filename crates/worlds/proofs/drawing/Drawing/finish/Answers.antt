@@ -12,5 +12,5 @@ returns g c =
       exact = λ m before during u. u.table.fills;
       holds = λ m before during u. stretch_holds _ _ _ _ _ u.table;
       few = λ m before during u. stretch_few _ _ _ _ _ u.table;
-      history = λ m before during. fits_finished g.F.Field.meaning g.F.Field.ordered m d before during d.window d.fills;
+      history = λ m before during. fits_finished m d before during d.window d.fills;
     }

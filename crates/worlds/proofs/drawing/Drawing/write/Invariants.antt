@@ -2,4 +2,4 @@ use Rattle.worlds.proofs.Rowing.{Way}
 use Rattle.worlds.proofs.drawing.Drawing.write.Given as goal
 
 abbrev pub invariant-loop-column : goal.invariant-loop-column
-invariant-loop-column g l = Way g.F.Field.meaning g.F.Field.ordered l.initial.self l.initial.out l.column l.self l.out
+invariant-loop-column g l = Way l.initial.self l.initial.out l.column l.self l.out
