@@ -46,8 +46,8 @@ module _ (m : Meaning) where
   ending_true : (r : RowAnswer) → AllTrue (ending r)
   ending_true (Ok u) = one_true Wrote tt (Wrote ∷ []) refl
   ending_true (Err (Blank f)) = λ e a. absurd a
-  ending_true (Err Full) = one_true (Refused 4) tt (Refused 4 ∷ []) refl
-  ending_true (Err Short) = one_true (Refused 5) tt (Refused 5 ∷ []) refl
+  ending_true (Err Full) = one_true (Refused Full) tt (Refused Full ∷ []) refl
+  ending_true (Err Short) = one_true (Refused Short) tt (Refused Short ∷ []) refl
 
   does_true : (s : Stage) (k : Call) (j : Journal) (t : Stage) → Does m s k j t → AllTrue j
   does_true alone (Look c) j t h = one_true (Asked c (m c)) refl j h.0

@@ -15,6 +15,7 @@ use Rattle.std.specs.Prelude.{◌≡◌, ℕ, ◌*◌, ◌≤◌, true, ◌⊎�
 use Rattle.std.specs.List.{AllByRecursion}
 use Rattle.grid.specs.declared.cell.Cell.{Cell}
 use Rattle.grid.specs.declared.chunk.Chunk.{Chunk}
+use Rattle.grid.specs.declared.field.Field.{Ghosts}
 use Rattle.grid.specs.declared.window.Window.{Window}
 use Rattle.grid.specs.Counts.{Among, Counts}
 use Rattle.grid.specs.Meanings.{Answer, Meaning}
@@ -63,39 +64,39 @@ Fair j =
 abbrev pub Holds : Meaning → Table → Chunk → Type 0
 Holds m t k = (holds t k ≡ true) × ((c : Cell) → chunk_of c ≡ k → stored t c ≡ mark (m c))
 
-module _ {F : Type 0} where
-  abbrev pub stage_of : Phase F → Stage
+module _ {F : Type 0} {g : Ghosts F} where
+  abbrev pub stage_of : Phase F g → Stage
   stage_of (Alone w) = alone
   stage_of (Open d) = drawing (window_of d) (next_of d)
 
-  abbrev pub table_in : Phase F → Table
+  abbrev pub table_in : Phase F g → Table
   table_in (Alone w) = table_of w
   table_in (Open d) = table_of (world_of d)
 
-module _ {F : Type 0} (meaning : F → Meaning) (ordered : F → Type 0) where
-  abbrev pub Stands : Meaning → Phase F → Journal → Type 0
-  Stands m (Alone w) j = Fits meaning ordered m w j
-  Stands m (Open d) j = (before : Journal) × (during : Journal) × (j ≡ before ++ Begun (window_of d) ∷ during) × Underway meaning ordered m d before during
+module _ {F : Type 0} {g : Ghosts F} where
+  abbrev pub Stands : Meaning → Phase F g → Journal → Type 0
+  Stands m (Alone w) j = Fits m w j
+  Stands m (Open d) j = (before : Journal) × (during : Journal) × (j ≡ before ++ Begun (window_of d) ∷ during) × Underway m d before during
 
-  abbrev pub Sound : Meaning → Phase F → Journal → Type 0
+  abbrev pub Sound : Meaning → Phase F g → Journal → Type 0
   Sound m p j = Stands m p j × Fair j
 
-  abbrev pub Turns : Meaning → Phase F → Call → Journal → Phase F → Journal → Type 0
+  abbrev pub Turns : Meaning → Phase F g → Call → Journal → Phase F g → Journal → Type 0
   Turns m p c i q j = Sound m p i → (es : Journal) × (j ≡ i ++ es) × Does m (stage_of p) c es (stage_of q) × Sound m q j
 
-  abbrev pub Draws : Meaning → ℕ → Journal → Journal → Drawing F → Journal → Drawing F → Journal → Type 0
+  abbrev pub Draws : Meaning → ℕ → Journal → Journal → Drawing F g → Journal → Drawing F g → Journal → Type 0
   Draws m n before during d i e j =
-      Underway meaning ordered m d before during →
-      (es : Journal) × (j ≡ i ++ es) × Does m (stage_of (Open d)) (Row n) es (stage_of (Open e)) × Underway meaning ordered m e before (during ++ es) × (window_of e ≡ window_of d)
+      Underway m d before during →
+      (es : Journal) × (j ≡ i ++ es) × Does m (stage_of (Open d)) (Row n) es (stage_of (Open e)) × Underway m e before (during ++ es) × (window_of e ≡ window_of d)
 
-  pub record Faithful (m : Meaning) (cs : List Call) (p : Phase F) (j : Journal) : Type 0 where
+  pub record Faithful (m : Meaning) (cs : List Call) (p : Phase F g) (j : Journal) : Type 0 where
     pub answers : Runs m alone cs j (stage_of p)
     pub fills : Fair j
     pub held : (k : Chunk) → Holds m (table_in p) k ↔ Held j k
     pub stands : Stands m p j
 
-  pub record Replayed (f : F) (cs : List Call) (n : ℕ) (run : Run F) : Type 0 where
-    pub faithful : ordered f → Faithful (meaning f) (take run.done cs) run.phase (vec_items run.journal)
+  pub record Replayed (f : F) (cs : List Call) (n : ℕ) (run : Run F g) : Type 0 where
+    pub faithful : Faithful (g.meaning f) (take run.done cs) run.phase (vec_items run.journal)
     pub done : run.done ≤ length cs
     -- no call tells more than 58 events
     pub whole : 58 * length cs ≤ n → run.done ≡ length cs

@@ -17,9 +17,9 @@ pub fn compare<F: Field, G: Field>(
     second_calls: &[Call],
     second_room: Vec<Event>,
 ) -> (Run<F>, Run<G>)
-    ensures near { F.Field.ordered first → G.Field.ordered second → NearOnly (F.Field.meaning first) (G.Field.meaning second) result.0.journal.items result.1.journal.items }
-    ensures one { Replayed F.Field.meaning F.Field.ordered first first_calls.now (vec_capacity first_room) result.0 }
-    ensures other { Replayed G.Field.meaning G.Field.ordered second second_calls.now (vec_capacity second_room) result.1 }
+    ensures near { NearOnly (F.Field.meaning first) (G.Field.meaning second) result.0.journal.items result.1.journal.items }
+    ensures one { Replayed first first_calls.now (vec_capacity first_room) result.0 }
+    ensures other { Replayed second second_calls.now (vec_capacity second_room) result.1 }
 {
     let one = replay(first, first_calls, first_room);
     let other = replay(second, second_calls, second_room);

@@ -15,7 +15,7 @@ const MOST_EVENTS: usize = 58;
 // Opens a world on the field and makes the calls one after another. The journal is made in `room`, which grows as it must:
 // before each call there is room for all that it can tell, so that no call that was made goes untold, and want of memory ends the run before a call.
 pub fn replay<F: Field>(field: F, calls: &[Call], room: Vec<Event>) -> Run<F>
-    ensures { Replayed F.Field.meaning F.Field.ordered field calls.now (vec_capacity room) result }
+    ensures { Replayed field calls.now (vec_capacity room) result }
 {
     let mut journal = room;
     journal.clear();

@@ -13,7 +13,7 @@ use worlds::event::Event;
 // The next row, into `row`.
 fn draw_into<F: Field>(drawing: &mut Drawing<F>, row: &mut [u16], journal: &mut Vec<Event>)
     requires { vec_len journal.old + 58 ≤ vec_capacity journal.old }
-    ensures law { (m : Meaning) (before during : Journal) → Draws F.Field.meaning F.Field.ordered m (length row.old) before during drawing.old journal.old.items drawing.new journal.new.items }
+    ensures law { (m : Meaning) (before during : Journal) → Draws m (length row.old) before during drawing.old journal.old.items drawing.new journal.new.items }
     ensures len { vec_len journal.new ≤ vec_len journal.old + 58 }
     ensures capacity { vec_capacity journal.new ≡ vec_capacity journal.old }
 {
@@ -26,7 +26,7 @@ fn draw_into<F: Field>(drawing: &mut Drawing<F>, row: &mut [u16], journal: &mut 
 // The next row, into a row of its own with so many places. No window is wider than 57, so that many serve for more.
 pub(crate) fn draw_row<F: Field>(drawing: &mut Drawing<F>, places: usize, journal: &mut Vec<Event>)
     requires { vec_len journal.old + 58 ≤ vec_capacity journal.old }
-    ensures law { (m : Meaning) (before during : Journal) → Draws F.Field.meaning F.Field.ordered m places before during drawing.old journal.old.items drawing.new journal.new.items }
+    ensures law { (m : Meaning) (before during : Journal) → Draws m places before during drawing.old journal.old.items drawing.new journal.new.items }
     ensures len { vec_len journal.new ≤ vec_len journal.old + 58 }
     ensures capacity { vec_capacity journal.new ≡ vec_capacity journal.old }
 {

@@ -55,6 +55,6 @@ pub(crate) fn tell_row(
             tell_heights(journal, window, row, &out[0..column]);
             journal.push_reserved(Event::Asked(fault.cell, Err(fault.blank)));
         }
-        Err(refusal) => journal.push_reserved(Event::Refused(refusal.number())),
+        Err(refusal) => journal.push_reserved(Event::Refused(refusal)),
     }
 }

@@ -30,7 +30,7 @@ fn looked_at(at: Cell, answer: Result<u16, BlankFault>) -> Event
 
 // A call on a world by itself, and what it tells.
 fn call_world<F: Field>(world: World<F>, call: Call) -> (Phase<F>, Event)
-    ensures { (m : Meaning) (j : Journal) → Turns F.Field.meaning F.Field.ordered m (Alone world) call j result.0 (j ++ result.1 ∷ []) }
+    ensures { (m : Meaning) (j : Journal) → Turns m (Alone world) call j result.0 (j ++ result.1 ∷ []) }
 {
     let mut world = world;
     match call {
@@ -50,7 +50,7 @@ fn call_world<F: Field>(world: World<F>, call: Call) -> (Phase<F>, Event)
 // A call while a drawing is open, and what it tells. No program can make those on the world itself: they are passed over.
 fn call_drawing<F: Field>(drawing: Drawing<F>, call: Call, journal: &mut Vec<Event>) -> Phase<F>
     requires { vec_len journal.old + 58 ≤ vec_capacity journal.old }
-    ensures law { (m : Meaning) → Turns F.Field.meaning F.Field.ordered m (Open drawing) call journal.old.items result journal.new.items }
+    ensures law { (m : Meaning) → Turns m (Open drawing) call journal.old.items result journal.new.items }
     ensures len { vec_len journal.new ≤ vec_len journal.old + 58 }
     ensures capacity { vec_capacity journal.new ≡ vec_capacity journal.old }
 {
@@ -75,7 +75,7 @@ fn call_drawing<F: Field>(drawing: Drawing<F>, call: Call, journal: &mut Vec<Eve
 // Makes one call and tells what it told.
 pub(crate) fn turn<F: Field>(phase: Phase<F>, call: Call, journal: &mut Vec<Event>) -> Phase<F>
     requires { vec_len journal.old + 58 ≤ vec_capacity journal.old }
-    ensures law { (m : Meaning) → Turns F.Field.meaning F.Field.ordered m phase call journal.old.items result journal.new.items }
+    ensures law { (m : Meaning) → Turns m phase call journal.old.items result journal.new.items }
     ensures len { vec_len journal.new ≤ vec_len journal.old + 58 }
     ensures capacity { vec_capacity journal.new ≡ vec_capacity journal.old }
 {

@@ -3,7 +3,7 @@ use Rattle.tracks.proofs.compare.compare.Goals as goal
 
 pub returns : goal.returns
 returns g c = record {
-  near = λ o p. runs_near _ _ _ _ _ _ _ _ _ _ (c.replay-one.ensures.faithful o).answers (c.replay-other.ensures.faithful p).answers;
+  near = runs_near _ _ _ _ _ _ _ _ _ _ c.replay-one.ensures.faithful.answers c.replay-other.ensures.faithful.answers;
   one = c.replay-one.ensures;
   other = c.replay-other.ensures;
 }

@@ -23,7 +23,7 @@ loop-done-preserved g c =
       omega (arith, inv.2, c.turn-phase.ensures.capacity, c.reserve.ensures.capacity),
       λ m sound.
           let so = inv.3 m sound in
-          let turned = c.turn-phase.ensures.law m (subst (Sound g.F.Field.meaning g.F.Field.ordered m c.loop-done.phase) (sym c.reserve.ensures.items) so.1) in
+          let turned = c.turn-phase.ensures.law m (subst (Sound m c.loop-done.phase) (sym c.reserve.ensures.items) so.1) in
           let told : before ++ turned.0 ≡ vec_items c.turn-phase.new.journal = ap (λ (j : Journal). j ++ turned.0) (sym c.reserve.ensures.items) ∙ sym turned.1 in
           let made : take c.loop-done.done calls ++ call ∷ [] ≡ take (c.loop-done.done + 1) calls =
           ap (λ (k : Call). take c.loop-done.done calls ++ k ∷ []) c.index-calls-done.is ∙ sym (take_more calls c.loop-done.done call c.loop-done-test.true) in (
@@ -43,10 +43,10 @@ returns g c =
       | else-loop-done-test w ↦ sym (ap vec_items w.journal-is)
     ] in
     record {
-      faithful = λ o.
-          let so = inv.3 m (c.open.ensures.history o, fair_none) in
-          subst (λ (j : Journal). Faithful g.F.Field.meaning g.F.Field.ordered m (take c.loop-done.done c.args.calls.now) c.loop-done.phase j) same
-          (faithful g.F.Field.meaning g.F.Field.ordered m (take c.loop-done.done c.args.calls.now) c.loop-done.phase (vec_items c.loop-done.journal) so.0 so.1);
+      faithful =
+          let so = inv.3 m (c.open.ensures.history, fair_none) in
+          subst (λ (j : Journal). Faithful m (take c.loop-done.done c.args.calls.now) c.loop-done.phase j) same
+          (faithful m (take c.loop-done.done c.args.calls.now) c.loop-done.phase (vec_items c.loop-done.journal) so.0 so.1);
       done = inv.0;
       whole = λ room. elim c.loop-done-test.branch [
         | then-loop-done-test+else-is_ok w ↦

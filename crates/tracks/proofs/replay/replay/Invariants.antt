@@ -9,9 +9,9 @@ invariant-loop-done g l =
     (l.done ≤ length l.calls)
     × (vec_len l.journal ≤ 58 * l.done)
     × (vec_capacity l.initial.journal ≤ vec_capacity l.journal)
-    × ((m : Meaning) → Sound g.F.Field.meaning g.F.Field.ordered m l.initial.phase [] →
+    × ((m : Meaning) → Sound m l.initial.phase [] →
     Runs m (stage_of l.initial.phase) (take l.done l.calls) (vec_items l.journal) (stage_of l.phase)
-    × Sound g.F.Field.meaning g.F.Field.ordered m l.phase (vec_items l.journal))
+    × Sound m l.phase (vec_items l.journal))
 
 abbrev pub decreases-loop-done : goal.decreases-loop-done
 decreases-loop-done g l = length l.calls - l.done

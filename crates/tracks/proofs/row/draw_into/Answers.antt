@@ -16,7 +16,7 @@ returns g c =
       law = λ m before during u.
           let v = window_of d in
           let j = next_of d in
-          let answers : Answers m v j r out = subst (λ (n : Meaning). Answers n v j r out) u.means (c.row-answer.ensures.answer u.order) in
+          let answers : Answers m v j r out = subst (λ (n : Meaning). Answers n v j r out) u.means c.row-answer.ensures.answer in
           let asked : Answers m c.window-window.result c.next_row-number.result r out =
           subst (λ (w : Window). Answers m w c.next_row-number.result r out) (sym c.window-window.ensures) (subst (λ (n : ℕ). Answers m v n r out) (sym c.next_row-number.ensures) answers) in
           let window : window_of e ≡ v = (c.row-answer.ensures.goes m).window in (

@@ -19,8 +19,8 @@ returns-in-Row g c =
             row.0,
             row.1,
             subst (λ (k : Call). Does m (stage_of (Open d)) k row.0 (stage_of (Open e))) (sym c.in-Row.is) row.2,
-            subst (Sound g.F.Field.meaning g.F.Field.ordered m (Open e)) (sym row.1)
-                (sound_drawing g.F.Field.meaning g.F.Field.ordered m d e before row.0 s.0 row.4 row.3 s.1),
+            subst (Sound m (Open e)) (sym row.1)
+                (sound_drawing m d e before row.0 s.0 row.4 row.3 s.1),
           );
       len = c.draw_row.ensures.len;
       capacity = c.draw_row.ensures.capacity;
@@ -38,8 +38,8 @@ returns-in-Finish g c =
         Finished n ∷ [],
         told,
         subst (λ (k : Call). Does m (stage_of (Open d)) k (Finished n ∷ []) alone) (sym c.in-Finish.is) (n, refl, refl),
-        subst (Sound g.F.Field.meaning g.F.Field.ordered m (Alone w)) (sym told)
-            (sound_finish g.F.Field.meaning g.F.Field.ordered m d w n before s.0
+        subst (Sound m (Alone w)) (sym told)
+            (sound_finish m d w n before s.0
             (c.finish-world.ensures.exact m s.0.0 s.0.1 s.0.3) (c.finish-world.ensures.history m s.0.0 s.0.1 s.0.3) s.1),
       );
       len = omega (arith, c.push_reserved.ensures.len);
@@ -55,7 +55,7 @@ returns-in-Look g c =
         Passed ∷ [],
         told,
         ⊎_elim (λ look. passed m (sym look.1) (refl, refl)) (λ other. ⊎_elim (λ clear. passed m (sym clear) (refl, refl)) (λ begin. passed m (sym begin.1) (refl, refl)) other) c.in-Look.is,
-        subst (Sound g.F.Field.meaning g.F.Field.ordered m (Open d)) (sym told) (sound_passed g.F.Field.meaning g.F.Field.ordered m d (vec_items c.args.journal.now) s),
+        subst (Sound m (Open d)) (sym told) (sound_passed m d (vec_items c.args.journal.now) s),
       );
       len = omega (arith, c.push_reserved-in-Look.ensures.len);
       capacity = c.push_reserved-in-Look.ensures.capacity;

@@ -10,8 +10,8 @@ returns-in-Alone g c =
     let q = c.call_world-phase.result.0 in
     record {
       law = λ m.
-          subst (λ (p : Phase g.row.F.Denot). Turns g.F.Field.meaning g.F.Field.ordered m p c.args.call before q (vec_items c.push_reserved.new.self)) (sym c.in-Alone.is)
-          (subst (Turns g.F.Field.meaning g.F.Field.ordered m (Alone c.in-Alone.world) c.args.call before q) (sym c.push_reserved.ensures.items) (c.call_world-phase.ensures m before));
+          subst (λ (p : Phase g.row.F.Denot g.F.Field). Turns m p c.args.call before q (vec_items c.push_reserved.new.self)) (sym c.in-Alone.is)
+          (subst (Turns m (Alone c.in-Alone.world) c.args.call before q) (sym c.push_reserved.ensures.items) (c.call_world-phase.ensures m before));
       len = omega (arith, c.push_reserved.ensures.len);
       capacity = c.push_reserved.ensures.capacity;
     }
@@ -19,7 +19,7 @@ returns-in-Alone g c =
 pub returns-in-Open : goal.returns-in-Open
 returns-in-Open g c = record {
   law = λ m.
-      subst (λ (p : Phase g.row.F.Denot). Turns g.F.Field.meaning g.F.Field.ordered m p c.args.call (vec_items c.args.journal.now) c.call_drawing.result (vec_items c.call_drawing.new.journal))
+      subst (λ (p : Phase g.row.F.Denot g.F.Field). Turns m p c.args.call (vec_items c.args.journal.now) c.call_drawing.result (vec_items c.call_drawing.new.journal))
       (sym c.in-Open.is) (c.call_drawing.ensures.law m);
   len = c.call_drawing.ensures.len;
   capacity = c.call_drawing.ensures.capacity;
