@@ -1,5 +1,4 @@
 -- What the calls on worlds and drawings say, part by part. Assumes nothing.
---     Looks at w r x      a look at the cell `at` of the world w answers r and leaves the world x
 --     Writes d out r e p  writing the next row of the drawing d into the caller's row `out` answers r and leaves e and p; the next row is still the same
 --     Rows d out r e p    a call of `row` on d with `out` answers r and leaves e and p
 --     Finishes d w n      finishing d gives back the world w and the number n of fills
@@ -22,12 +21,6 @@ use Rattle.worlds.specs.Rows.{Answers, Past, Placed, RowAnswer, asked, next_afte
 use Rattle.worlds.specs.Worlds.{Fits, cache_of, held_by, world_meaning}
 
 module _ {F : Type 0} {g : Ghosts F} where
-  pub record Looks (at : Cell) (w : World F g) (r : Result ℕ BlankFault) (x : World F g) : Type 0 where
-    pub answer : r ≡ looked at (world_meaning w at)
-    pub same : world_meaning x ≡ world_meaning w
-    pub table : Through at (cache_of w) (cache_of x)
-    pub history : (m : Meaning) (j : Journal) → Fits m w j → Fits m x (j ++ Asked at (m at) ∷ [])
-
   pub record Writes (d : Drawing F g) (out : List ℕ) (r : RowAnswer) (e : Drawing F g) (p : List ℕ) : Type 0 where
     pub placed : Placed (window_of d) (next_of d) (length out) r
     pub answer : Answers (world_meaning (world_of d)) (window_of d) (next_of d) r p

@@ -4,11 +4,12 @@ ghost use Rattle.grid.specs.declared.cell.Cell.{Cell};
 ghost use Rattle.grid.specs.declared.chunk.Chunk.{Chunk};
 ghost use Rattle.grid.specs.Meanings.{Meaning};
 ghost use Rattle.grid.specs.Places.{chunk_of, inside};
+ghost use Rattle.tables.specs.Caches.{Through};
 ghost use Rattle.tables.specs.Tables.{stored, touch};
-ghost use Rattle.worlds.specs.Calls.{Looks};
 ghost use Rattle.worlds.specs.Journals.{Journal};
-ghost use Rattle.worlds.specs.Worlds.{Fits, below_of, held_by, table_of, world_meaning};
-ghost use Rattle.worlds.specs.declared.event.Event.TheVariants.{Cleared};
+ghost use Rattle.worlds.specs.Refusals.{looked};
+ghost use Rattle.worlds.specs.Worlds.{Fits, below_of, cache_of, held_by, table_of, world_meaning};
+ghost use Rattle.worlds.specs.declared.event.Event.TheVariants.{Asked, Cleared};
 
 use crate::refusal::BlankFault;
 use grid::cell::Cell;
@@ -35,7 +36,10 @@ impl<F: Field> World<F> {
 
     // The height of a cell.
     pub fn look(&mut self, at: Cell) -> Result<u16, BlankFault>
-        ensures { Looks at self.old result self.new }
+        ensures answer { result ≡ looked at (world_meaning self.old at) }
+        ensures same { world_meaning self.new ≡ world_meaning self.old }
+        ensures table { Through at (cache_of self.old) (cache_of self.new) }
+        ensures history { (m : Meaning) (j : Journal) → Fits m self.old j → Fits m self.new (j ++ Asked at (m at) ∷ []) }
     {
         let answer = self.cache.ask(at);
         answer.map_err(|blank| BlankFault { cell: at, blank })
