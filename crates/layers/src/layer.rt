@@ -1,8 +1,8 @@
 // A rule on top of a field.
-ghost use Rattle.std.specs.Prelude.{◌≡◌, ◌<◌, ◌≤◌, true};
-ghost use Rattle.grid.specs.Piles.{north_west, side, step};
-ghost use Rattle.grid.specs.Places.{cell_at, inside};
-ghost use Rattle.layers.specs.Layers.{layer_lawful, layer_meaning, layer_ordered};
+ghost use Rattle.std.specs.Prelude.{◌≡◌, ◌≤◌, true, pos, ◌+ℤ◌, ◌-ℤ◌, unsigned_abs};
+ghost use Rattle.grid.specs.Piles.{north_west, step};
+ghost use Rattle.grid.specs.Places.{cell_at, inside, rim};
+ghost use Rattle.layers.specs.Layers.{layer_lawful, layer_meaning};
 
 use grid::blank::Blank;
 use grid::cell::Cell;
@@ -18,24 +18,30 @@ pub struct Layer<F, R> {
     rule: R,
 }
 
+// The coordinate number `place` of those that the square around this one has. Within the rim no sum overflows.
+fn of_square(centre: i32, radius: u8, place: u8) -> i32
+    requires { unsigned_abs centre ≤ rim }
+    ensures { result ≡ (centre -ℤ pos radius) +ℤ pos place }
+{
+    centre - i32::from(radius) + i32::from(place)
+}
+
 // The cell in this column and row of the square around `centre`.
 fn square_cell(centre: Cell, radius: u8, column: u8, row: u8) -> Cell
-    requires centre { inside centre ≡ true }
-    requires radius { radius ≤ 11 }
-    requires column { column < side radius }
-    requires row { row < side radius }
+    requires { inside centre ≡ true }
     ensures { result ≡ cell_at (north_west radius centre) column row }
 {
     Cell {
-        x: centre.x - radius as i32 + column as i32,
-        y: centre.y - radius as i32 + row as i32,
+        x: of_square(centre.x, radius, column),
+        y: of_square(centre.y, radius, row),
     }
 }
 
 impl<F: Field, R: Rule> Layer<F, R> {
+    // A layer on top of this field, which is not asked for anything yet.
     pub fn new(below: F, rule: R) -> Layer<F, R>
-        ensures meaning { layer_meaning R.Rule.stencil F.Field.meaning result ≡ step (R.Rule.stencil rule) (F.Field.meaning below) }
-        ensures order { F.Field.ordered below → layer_ordered F.Field.ordered result }
+        ensures meaning { ⟦<Layer<F, R> as Field>⟧.meaning result ≡ step (R.Rule.stencil rule) (F.Field.meaning below) }
+        ensures unasked { result.below ≡ below }
     {
         Layer { below, rule }
     }
@@ -43,10 +49,6 @@ impl<F: Field, R: Rule> Layer<F, R> {
 
 impl<F: Field, R: Rule> Field for Layer<F, R> {
     ghost meaning = { layer_meaning R.Rule.stencil F.Field.meaning };
-
-    ghost ordered = { layer_ordered F.Field.ordered };
-
-    ghost lawful = { layer_lawful R.Rule.stencil F.Field.meaning F.Field.ordered R.Rule.fit F.Field.lawful };
 
     // Asks the cells of the square in reading order, up to the first blank.
     fn ask(&mut self, at: Cell) -> Result<u16, Blank> {
@@ -56,6 +58,7 @@ impl<F: Field, R: Rule> Field for Layer<F, R> {
         let radius = self.rule.radius();
         let side = 2 * radius + 1;
         let mut square = [0u16; LARGEST_SQUARE];
+        // The square stands in a fixed local array, without the heap, and is filled up to where the walk came.
         let mut count: usize = 0;
         let mut blank = None;
         'search: for row in 0..side {
@@ -74,7 +77,9 @@ impl<F: Field, R: Rule> Field for Layer<F, R> {
         }
         match blank {
             Some(found) => Err(found.raise()),
-            None => Ok(self.rule.answer(&square[0..count])),
+            None => Ok(self.rule.answer(&square[..count])),
         }
     }
+
+    ghost lawful = { layer_lawful R.Rule.stencil F.Field.meaning R.Rule.fit F.Field.lawful };
 }
