@@ -4,6 +4,7 @@ use mathlib.Core.Path.{transport}
 use Rattle.std.specs.List.{range_with_len, AllByRecursion}
 use Rattle.std.proofs.lemmas.Bool.{cases_eq}
 use Rattle.grid.specs.declared.chunk.Chunk.{Chunk}
+use Rattle.grid.specs.declared.field.Field.{Ghosts}
 use Rattle.grid.specs.declared.window.Window.{Window}
 use Rattle.grid.specs.Counts.{Counts}
 use Rattle.grid.specs.Meanings.{Meaning}
@@ -18,7 +19,7 @@ use Rattle.worlds.specs.Drawings.{Underway, next_of, window_of, world_of}
 use Rattle.worlds.specs.Journals.{Held, InDrawing, Journal, Missing, Touched, Touches}
 use Rattle.worlds.specs.Refusals.{row_refusal}
 use Rattle.worlds.specs.Rows.{Answers, Placed, RowAnswer, row_told, told_by}
-use Rattle.worlds.specs.Worlds.{world_meaning, world_ordered}
+use Rattle.worlds.specs.Worlds.{world_meaning}
 use Rattle.worlds.proofs.Histories.{touched_left, touched_right}
 use Rattle.worlds.proofs.Stretches.{cell_inside, drawing_touches}
 use Rattle.coasts.specs.Answers.{Drawn}
@@ -41,17 +42,17 @@ row_touches m v i j wide high =
     (touched_at (λ a. Asked (cell_of v a j) (m (cell_of v a j))) k 0 (width_of v) i (omega arith) (omega arith)
     (cell_inside v (cell_of v i j) (i, j, wide, high, refl), refl))
 
-module _ {F : Type 0} (meaning : F → Meaning) (ordered : F → Type 0) (m : Meaning) (v : Window) where
+module _ {F : Type 0} {g : Ghosts F} (m : Meaning) (v : Window) where
   -- the first j rows of the window are drawn and written
-  pub record Reached (j : ℕ) (d : Drawing F) (text : List ℕ) : Type 0 where
+  pub record Reached (j : ℕ) (d : Drawing F g) (text : List ℕ) : Type 0 where
     pub window : window_of d ≡ v
     pub next : next_of d ≡ j
     pub during : Journal
-    pub underway : Underway meaning ordered m d [] during
+    pub underway : Underway m d [] during
     pub touched : (a b : ℕ) → a < width_of v → b < j → Touched during (chunk_of (cell_of v a b))
     pub written : Written m v (height_of v) j text
 
-  pub reached_none : (d : Drawing F) (text : List ℕ) → window_of d ≡ v → next_of d ≡ 0 → Underway meaning ordered m d [] [] → text ≡ [] → Reached 0 d text
+  pub reached_none : (d : Drawing F g) (text : List ℕ) → window_of d ≡ v → next_of d ≡ 0 → Underway m d [] [] → text ≡ [] → Reached 0 d text
   reached_none d text window next underway none = record {
     window = window;
     next = next;
@@ -61,33 +62,32 @@ module _ {F : Type 0} (meaning : F → Meaning) (ordered : F → Type 0) (m : Me
     written = subst (Written m v (height_of v) 0) (sym none) (written_none m v (height_of v));
   }
 
-  module _ (j : ℕ) (d : Drawing F) (text : List ℕ) (so : Reached j d text) where
+  module _ (j : ℕ) (d : Drawing F g) (text : List ℕ) (so : Reached j d text) where
     -- what `row` says where it answers r ..
     abbrev Said : RowAnswer → List ℕ → Type 0
-    Said r p = world_ordered meaning ordered (world_of d) → Answers (world_meaning meaning (world_of d)) (window_of d) (next_of d) r p
+    Said r p = Answers (world_meaning (world_of d)) (window_of d) (next_of d) r p
 
     -- .. is said of row j of the window
     said_here : (r : RowAnswer) (p : List ℕ) → Said r p → Answers m v j r p
-    said_here r p said = transport (λ t. Answers (so.underway.means t) (so.window t) (so.next t) r p) (said so.underway.order)
+    said_here r p said = transport (λ t. Answers (so.underway.means t) (so.window t) (so.next t) r p) said
 
     -- row j was written whole
-    pub reached_more : (e : Drawing F) (w : ℕ) (p after : List ℕ) → j < height_of v → width_of v ≤ length p → w ≡ width_of v → Said (Ok tt) p →
+    pub reached_more : (e : Drawing F g) (p after : List ℕ) → j < height_of v → length p ≡ width_of v → Said (Ok tt) p →
         window_of e ≡ window_of d → next_of e ≡ next_of d + 1 →
-        ((before during : Journal) → Underway meaning ordered m d before during → Underway meaning ordered m e before (during ++ told_by m (window_of d) (next_of d) (Ok tt))) →
-        after ≡ text ++ row_text (take w p) → Reached (j + 1) e after
-    reached_more e w p after high room whole said window next history is =
+        ((before during : Journal) → Underway m d before during → Underway m e before (during ++ told_by m (window_of d) (next_of d) (Ok tt))) →
+        after ≡ text ++ row_text p → Reached (j + 1) e after
+    reached_more e p after high room said window next history is =
         let told = told_by m v j (Ok tt) in
-        let line = is ∙ ap (λ (n : ℕ). text ++ row_text (take n p)) whole in
         record {
           window = window ∙ so.window;
           next = next ∙ ap (λ (i : ℕ). i + 1) so.next;
           during = so.during ++ told;
-          underway = subst (λ (l : Journal). Underway meaning ordered m e [] (so.during ++ l)) (λ t. told_by m (so.window t) (so.next t) (Ok tt)) (history [] so.during so.underway);
+          underway = subst (λ (l : Journal). Underway m e [] (so.during ++ l)) (λ t. told_by m (so.window t) (so.next t) (Ok tt)) (history [] so.during so.underway);
           touched = λ a b wide low. ⊎_elim
               (λ q. touched_right _ so.during told (subst (λ (i : ℕ). Touched told (chunk_of (cell_of v a i))) (sym q) (row_touches m v a j wide high)))
               (λ ne. touched_left _ so.during told (so.touched a b wide (omega arith)))
               (cases_eq b j);
-          written = subst (Written m v (height_of v) (j + 1)) (sym line) (written_more m v (height_of v) j text _ high (row_whole m v j p room (said_here (Ok tt) p said)) so.written);
+          written = subst (Written m v (height_of v) (j + 1)) (sym is) (written_more m v (height_of v) j text _ high (row_whole m v j p room (said_here (Ok tt) p said)) so.written);
         }
 
     -- row j was refused, with the number k
@@ -106,7 +106,7 @@ module _ {F : Type 0} (meaning : F → Meaning) (ordered : F → Type 0) (m : Me
         }
 
     -- all rows are written: the drawing touched what the window touches
-    pub drawn_all : (n : ℕ) (out : List ℕ) → height_of v ≤ j → ((during : Journal) → Underway meaning ordered m d [] during → Counts n (Missing (Held []) during)) →
+    pub drawn_all : (n : ℕ) (out : List ℕ) → height_of v ≤ j → ((during : Journal) → Underway m d [] during → Counts n (Missing (Held []) during)) →
         out ≡ text ++ fills_text n → Drawn m v out
     drawn_all n out ended exact is =
         let count = exact so.during so.underway in

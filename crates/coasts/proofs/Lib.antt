@@ -1,3 +1,4 @@
 mod Drawings
+mod Plans
 mod Rows
 mod Texts

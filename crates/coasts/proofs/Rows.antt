@@ -33,10 +33,10 @@ module _ (m : Meaning) (v : Window) (j : ℕ) (p : List ℕ) where
   long = length-map-range_with_len (λ i. cell_of v i j) 0 (width_of v)
 
   -- it was written whole
-  pub row_whole : width_of v ≤ length p → Answers m v j (Ok tt) p → survey m (row_cells v j) ≡ Ok (take (width_of v) p)
-  row_whole room said = survey_all m (row_cells v j) (take (width_of v) p) (length-take-le (width_of v) p room ∙ sym long) (λ k d h.
+  pub row_whole : length p ≡ width_of v → Answers m v j (Ok tt) p → survey m (row_cells v j) ≡ Ok p
+  row_whole room said = survey_all m (row_cells v j) p (room ∙ sym long) (λ k d h.
       let wide : k < width_of v = omega (arith, long) in
-      ap m (at k d wide) ∙ said.0 k wide ∙ ap Ok (sym (get_or-take (width_of v) p k 0 wide)))
+      ap m (at k d wide) ∙ said.0 k wide)
 
   -- it was refused, though it was due and the caller's row has room: then for a blank
   pub row_blank : (e : RowRefusal) (n : ℕ) → j < height_of v → width_of v ≤ n → Placed v j n (Err e) → Answers m v j (Err e) p →

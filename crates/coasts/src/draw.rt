@@ -4,7 +4,7 @@ ghost use Rattle.coasts.specs.Answers.{Drawn};
 
 use crate::text::{write_fills, write_refusal, write_row};
 use grid::field::Field;
-use grid::window::{LONGEST_SIDE, Window};
+use grid::window::Window;
 use std::alloc::{AllocError, Global};
 use worlds::world::World;
 
@@ -14,18 +14,19 @@ pub(crate) fn draw<F: Field + Drop>(
     field: F,
     window: Window,
 ) -> Result<String, AllocError>
-    ensures { F.Field.ordered field → IfOk result (λ t. Drawn (F.Field.meaning field) window (string_bytes t)) }
+    ensures { IfOk result (λ t. Drawn (F.Field.meaning field) window (string_bytes t)) }
 {
     let mut text = String::new(heap);
     let mut drawing = World::open(field).begin(window);
-    let mut heights = [0; LONGEST_SIDE as usize];
-    let width = usize::from(window.width());
+    let mut row = Vec::new(heap);
+    row.resize(usize::from(window.width()), 0)?;
+    let heights = row.as_mut_slice();
     for _ in 0..window.height() {
-        if let Err(refusal) = drawing.row(&mut heights) {
+        if let Err(refusal) = drawing.row(heights) {
             write_refusal(&mut text, refusal.number())?;
             return Ok(text);
         }
-        write_row(&mut text, &heights[0..width])?;
+        write_row(&mut text, heights)?;
     }
     let (_, fills) = drawing.finish();
     write_fills(&mut text, fills)?;

@@ -3,7 +3,7 @@ ghost use Rattle.std.specs.Prelude.{◌≡◌};
 ghost use Rattle.grid.specs.Piles.{step};
 ghost use Rattle.request.specs.declared.Kind.TheVariants.{Heights as KindHeights, Roads as KindRoads, Sites as KindSites};
 ghost use Rattle.worlds.specs.Refusals.{looked};
-ghost use Rattle.coasts.specs.Kinds.{cached_meaning, cached_ordered, formula, heights_meaning, heights_ordered, roads_meaning, roads_ordered, rules_of, sites_meaning, sites_ordered};
+ghost use Rattle.coasts.specs.Kinds.{formula, rules_of};
 
 use grid::cell::Cell;
 use grid::field::Field;
@@ -31,29 +31,25 @@ pub type Sites = Cached<Heights, Settlement>;
 pub type Roads = Cached<Sites, Road>;
 
 fn cached<F: Field, R: Rule>(below: F, rule: R) -> Cached<F, R>
-    ensures meaning { cached_meaning R.Rule.stencil F.Field.meaning result ≡ step (R.Rule.stencil rule) (F.Field.meaning below) }
-    ensures order { F.Field.ordered below → cached_ordered F.Field.ordered F.Field.meaning result }
+    ensures { ⟦<Cached<F, R> as Field>⟧.meaning result ≡ step (R.Rule.stencil rule) (F.Field.meaning below) }
 {
     Layer::new(Cache::new(below), rule)
 }
 
 pub fn heights(seed: u64) -> Heights
-    ensures meaning { heights_meaning result ≡ formula (rules_of KindHeights) seed }
-    ensures order { heights_ordered result }
+    ensures { ⟦<Heights as Field>⟧.meaning result ≡ formula (rules_of KindHeights) seed }
 {
     cached(cached(Noise::new(seed), Smoothing {}), Smoothing {})
 }
 
 pub fn sites(seed: u64) -> Sites
-    ensures meaning { sites_meaning result ≡ formula (rules_of KindSites) seed }
-    ensures order { sites_ordered result }
+    ensures { ⟦<Sites as Field>⟧.meaning result ≡ formula (rules_of KindSites) seed }
 {
     cached(heights(seed), Settlement {})
 }
 
 pub fn roads(seed: u64) -> Roads
-    ensures meaning { roads_meaning result ≡ formula (rules_of KindRoads) seed }
-    ensures order { roads_ordered result }
+    ensures { ⟦<Roads as Field>⟧.meaning result ≡ formula (rules_of KindRoads) seed }
 {
     cached(sites(seed), Road {})
 }

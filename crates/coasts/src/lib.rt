@@ -5,4 +5,6 @@ pub mod answer;
 mod draw;
 pub mod kinds;
 pub mod laws;
+pub mod plan;
+pub mod refusal;
 mod text;

@@ -1,29 +1,14 @@
-use Rattle.std.proofs.Common.{ℕ, IfOk, Ok, Err, string_bytes, Result, sym, subst}
-use Rattle.grid.specs.Piles.{carry}
-use Rattle.grid.specs.Windows.{Makes}
-use Rattle.grounds.specs.Noises.{noise}
-use Rattle.request.specs.declared.Kind.{Kind}
-use Rattle.coasts.specs.Answers.{Drawn}
-use Rattle.coasts.specs.Kinds.{formula, rules_of}
+use Rattle.std.proofs.Common.{string_bytes, ap, ◌∙◌}
+use Rattle.std.proofs.lemmas.Result.{IfOk-weaker}
+use Rattle.coasts.specs.Texts.{refusal_text}
+use Rattle.coasts.proofs.Plans.{prints_plan, prints_refusal}
 use Rattle.coasts.proofs.answer.answer.Goals as goal
 
-also : {T E : Type 0} (P Q : T → Type 0) → ((t : T) → P t → Q t) → (r : Result T E) → IfOk r P → IfOk r Q
-also P Q f (Ok t) p = f t p
-also P Q f (Err e) p = p
+pub returns-in-Ok : goal.returns-in-Ok
+returns-in-Ok c = IfOk-weaker c.draw.result _ _ (λ t. prints_plan c.args.input.now (string_bytes t) c.in-Ok.plan c.in-Ok.ensures) c.draw.ensures
 
--- the noise by itself is its own formula
-pub returns-in-Raw : goal.returns-in-Raw
-unfolding carry
-returns-in-Raw c =
-    let q = c.in-Ok.request in
-    let v = c.in-Ok-new.window in
-    let window = subst (λ corner. Makes corner q.width q.height (Ok v)) c.corner.ensures c.in-Ok-new.ensures in
-    also _ _ (λ t drawn. (
-      Ok q,
-      c.in-Ok.ensures,
-      (
-        Ok v,
-        window,
-        subst (λ (k : Kind). Drawn (formula (rules_of k) q.seed) v (string_bytes t)) (sym c.in-Raw.is) (subst (λ (s : ℕ). Drawn (noise s) v (string_bytes t)) c.new-in-Raw.ensures drawn),
-      ),
-    )) c.draw.result (c.draw.ensures tt)
+pub returns-in-Err : goal.returns-in-Err
+returns-in-Err c =
+    IfOk-weaker c.refusal_line.result _ _
+    (λ t is. prints_refusal c.args.input.now (string_bytes t) c.in-Err.refusal c.in-Err.ensures (is ∙ ap refusal_text c.number.ensures))
+    c.refusal_line.ensures

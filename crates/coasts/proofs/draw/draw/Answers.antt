@@ -1,4 +1,4 @@
-use Rattle.std.proofs.Common.{◌≡◌, ◌-◌, ◌<◌, ◌≤◌, [], length, string_bytes, sym, refl, ap, ◌∙◌, arith}
+use Rattle.std.proofs.Common.{◌≡◌, ◌<◌, ◌≤◌, [], length, string_bytes, sym, ap, ◌∙◌, arith, rules}
 use Rattle.grid.specs.Windows.{height_of, width_of}
 use Rattle.coasts.proofs.Drawings.{Reached, drawn_all, drawn_blank, reached_more, reached_none}
 use Rattle.coasts.proofs.draw.draw.Given as given
@@ -6,48 +6,42 @@ use Rattle.coasts.proofs.draw.draw.Goals as goal
 use Rattle.coasts.proofs.draw.draw.Goals.{After-height-end}
 
 pub loop-init : goal.loop-init
-loop-init g c = (refl, λ m v begun. begun)
-
-pub slice_bounds-row-end : goal.slice_bounds-row-end
-slice_bounds-row-end g c = sym c.loop.invariant.0
+loop-init g c = (search rules, λ m v begun. begun)
 
 pub loop-preserved : goal.loop-preserved
 loop-preserved g c =
     let said = c.in_default.ensures in
     let p = c.row.new.out in
-    let long : length p ≡ 57 = said.past.0 ∙ c.loop.invariant.0 in (
+    let long : length p ≡ width_of c.args.window = said.past.0 ∙ c.loop.invariant.0 in (
       long,
       λ m v begun.
           let window : v ≡ c.args.window = sym begun.window ∙ c.begin-drawing.ensures.start.0 in
           let high : c.loop.counter < height_of v = omega (arith, ap height_of window) in
-          let room : width_of v ≤ length p = omega arith in
-          let whole : c.from-width.result - 0 ≡ width_of v = omega (arith, ap width_of window) in
-          reached_more _ _ m v c.loop.counter _ _ (c.loop.invariant.1 m v begun) c.row.new.self _ p (string_bytes c.write_row.new.text) high room whole
+          reached_more m v c.loop.counter _ _ (c.loop.invariant.1 m v begun) c.row.new.self p (string_bytes c.write_row.new.text) high (long ∙ ap width_of (sym window))
           said.answer (said.goes m).window said.next (said.history m)
           c.in_ok-write_row.ensures,
     )
 
 -- the drawing begins on a world of its own
-begun : (g : given.Over) (c : After-height-end g) → g.F.Field.ordered c.args.field →
-    Reached g.F.Field.meaning g.F.Field.ordered (g.F.Field.meaning c.args.field) c.args.window 0 c.begin-drawing.result (string_bytes c.new-text.result)
-begun g c order =
+begun : (g : given.Over) (c : After-height-end g) → Reached (g.F.Field.meaning c.args.field) c.args.window 0 c.begin-drawing.result (string_bytes c.new-text.result)
+begun g c =
     let said = c.begin-drawing.ensures in
-    reached_none _ _ _ c.args.window _ _ said.start.0 said.start.1.0 (said.history _ [] (c.open.ensures.history order)) c.new-text.ensures.bytes
+    reached_none _ c.args.window _ _ said.start.0 said.start.1.0 (said.history _ [] c.open.ensures.history) c.new-text.ensures.bytes
 
 pub returns-in-Err : goal.returns-in-Err
-returns-in-Err g c = λ order.
+returns-in-Err g c =
     let said = c.in-Err.ensures in
     let v = c.args.window in
     let high : c.loop.counter < height_of v = omega arith in
     let room : width_of v ≤ length c.loop.heights = omega (arith, c.loop.invariant.0) in
-    drawn_blank _ _ _ v c.loop.counter _ _ (c.loop.invariant.1 _ v (begun g (goal.at.returns-in-Err g c).After-height-end order))
+    drawn_blank _ v c.loop.counter _ _ (c.loop.invariant.1 _ v (begun g (goal.at.returns-in-Err g c).After-height-end))
     c.in-Err.refusal _ c.number.result c.row.new.out (string_bytes c.write_refusal.new.text) high room said.placed said.answer c.number.ensures
     c.in_ok-write_refusal.ensures
 
 pub returns : goal.returns
-returns g c = λ order.
+returns g c =
     let v = c.args.window in
     let ended : height_of v ≤ c.loop.counter = omega arith in
-    drawn_all _ _ _ v c.loop.counter _ _ (c.loop.invariant.1 _ v (begun g (goal.at.returns g c).After-height-end order))
+    drawn_all _ v c.loop.counter _ _ (c.loop.invariant.1 _ v (begun g (goal.at.returns g c).After-height-end))
     c.finish-fills.result.1 (string_bytes c.write_fills.new.text) ended (λ during u. c.finish-fills.ensures.exact _ [] during u)
     c.in_ok-write_fills.ensures

@@ -6,7 +6,4 @@ use Rattle.coasts.proofs.kinds.heights.Goals as goal
 
 pub returns : goal.returns
 unfolding carry
-returns c = record {
-  meaning = c.cached-2.ensures.meaning ∙ ap (step smoothing) (c.cached.ensures.meaning ∙ ap (step smoothing) (ap noise c.new.ensures));
-  order = c.cached-2.ensures.order (c.cached.ensures.order tt);
-}
+returns c = c.cached-2.ensures ∙ ap (step smoothing) (c.cached.ensures ∙ ap (step smoothing) (ap noise c.new.ensures))

@@ -5,7 +5,4 @@ use Rattle.coasts.proofs.kinds.roads.Goals as goal
 
 pub returns : goal.returns
 unfolding carry
-returns c = record {
-  meaning = c.cached.ensures.meaning ∙ ap (step road) c.sites.ensures.meaning;
-  order = c.cached.ensures.order c.sites.ensures.order;
-}
+returns c = c.cached.ensures ∙ ap (step road) c.sites.ensures

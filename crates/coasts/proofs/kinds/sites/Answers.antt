@@ -5,7 +5,4 @@ use Rattle.coasts.proofs.kinds.sites.Goals as goal
 
 pub returns : goal.returns
 unfolding carry
-returns c = record {
-  meaning = c.cached.ensures.meaning ∙ ap (step settlement) c.heights.ensures.meaning;
-  order = c.cached.ensures.order c.heights.ensures.order;
-}
+returns c = c.cached.ensures ∙ ap (step settlement) c.heights.ensures
