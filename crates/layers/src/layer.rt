@@ -50,6 +50,8 @@ impl<F: Field, R: Rule> Layer<F, R> {
 impl<F: Field, R: Rule> Field for Layer<F, R> {
     ghost meaning = { layer_meaning R.Rule.stencil F.Field.meaning };
 
+    ghost lawful = { layer_lawful R.Rule.stencil F.Field.meaning R.Rule.fit F.Field.lawful };
+
     // Asks the cells of the square in reading order, up to the first blank.
     fn ask(&mut self, at: Cell) -> Result<u16, Blank> {
         if !at.is_inside() {
@@ -58,7 +60,7 @@ impl<F: Field, R: Rule> Field for Layer<F, R> {
         let radius = self.rule.radius();
         let side = 2 * radius + 1;
         let mut square = [0u16; LARGEST_SQUARE];
-        // The square stands in a fixed local array, without the heap, and is filled up to where the walk came.
+        // The square stands in a fixed local array, not on the heap, and is filled up to `count`: as far as the walk has come.
         let mut count: usize = 0;
         let mut blank = None;
         'search: for row in 0..side {
@@ -80,6 +82,4 @@ impl<F: Field, R: Rule> Field for Layer<F, R> {
             None => Ok(self.rule.answer(&square[..count])),
         }
     }
-
-    ghost lawful = { layer_lawful R.Rule.stencil F.Field.meaning R.Rule.fit F.Field.lawful };
 }

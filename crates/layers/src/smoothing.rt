@@ -1,10 +1,26 @@
 // Smoothing: a height is averaged with its eight neighbours.
-ghost use Rattle.layers.specs.Rules.{smoothing, smoothing_fit};
+ghost use Rattle.std.specs.Prelude.{◌≡◌, ◌≤◌, length};
+ghost use Rattle.layers.specs.Rules.{smoothing, smoothing_fit, weighed};
 
 use grid::rule::Rule;
 
+// In reading order: corners weigh 1, sides 2 and the centre 4.
+const WEIGHTS: [u8; 9] = [1, 2, 1, 2, 4, 2, 1, 2, 1];
+
 #[derive(Clone, Copy, Debug)]
 pub struct Smoothing {}
+
+// Each height times its weight, together.
+fn weighed(weights: &[u8], heights: &[u16]) -> u32
+    requires { length weights.now ≤ 9 }
+    ensures { result ≡ weighed weights.now heights.now }
+{
+    weights
+        .iter()
+        .zip(heights)
+        .map(|(weight, height)| u32::from(*weight) * u32::from(*height))
+        .sum()
+}
 
 impl Rule for Smoothing {
     ghost stencil = { λ _. smoothing };
@@ -16,9 +32,6 @@ impl Rule for Smoothing {
     }
 
     fn answer(&self, square: &[u16]) -> u16 {
-        let corners = square[0] as u32 + square[2] as u32 + square[6] as u32 + square[8] as u32;
-        let sides = square[1] as u32 + square[3] as u32 + square[5] as u32 + square[7] as u32;
-        let centre = square[4] as u32;
-        ((corners + 2 * sides + 4 * centre) / 16) as u16
+        (weighed(&WEIGHTS, square) / 16) as u16
     }
 }

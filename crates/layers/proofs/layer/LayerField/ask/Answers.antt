@@ -14,8 +14,8 @@ loop-column-preserved g c =
     let m = g.F.Field.meaning c.args.self.now.below in
     let r = c.radius-radius.result in
     let turn = c.loop-column in
-    let here = nth_at r c.args.at turn.column c.search.row turn.count (omega arith) turn.invariant.number in
-    let below = nth_below r turn.column c.search.row turn.count (omega arith) (omega arith) turn.invariant.number in
+    let here = nth_at r c.args.at turn.column c.search.row turn.count (omega arith) (omega arith) in
+    let below = nth_below r turn.column c.search.row turn.count (omega arith) (omega arith) (omega arith) in
     let most = area_most r (omega (arith, (g.met.R.Rule.fit c.args.self.now.rule).near)) in
     let walked = walked_more m r c.args.at turn.count turn.square c.in-Ok.height (omega arith) turn.invariant.walked (cc c.in-Ok.ensures.answer) in
     search rules
@@ -28,8 +28,8 @@ returns-in-Some-clause-answer g c = elim c.search-test.branch [
       let m = g.F.Field.meaning c.args.self.now.below in
       let r = c.radius-radius.result in
       let turn = w.loop-column in
-      let here = nth_at r c.args.at turn.column c.search.row turn.count (omega arith) turn.invariant.number in
-      let below = nth_below r turn.column c.search.row turn.count (omega arith) (omega arith) turn.invariant.number in
+      let here = nth_at r c.args.at turn.column c.search.row turn.count (omega arith) (omega arith) in
+      let below = nth_below r turn.column c.search.row turn.count (omega arith) (omega arith) (omega arith) in
       let blank = walked_to_blank s m c.args.at (sym c.if-not-is_inside.ensures) turn.count turn.square w.in-Err.found (rw c.radius-radius.ensures at below) (rw c.radius-radius.ensures at turn.invariant.walked) (cc w.in-Err.ensures.answer) in
       cc
 ]
