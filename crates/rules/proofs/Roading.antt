@@ -1,13 +1,12 @@
 -- What the tests of the rule of roads say, and in which rows they can be true. Assumes nothing.
 use Rattle.std.proofs.Common.{◌≡◌, ℕ, ◌+◌, ◌-◌, ◌*◌, ◌<◌, ◌≤◌, Bool, not, ◌&&◌, eqb, ltb, leb, Decides, List, get_or, inl, inr, min, map, arith}
-use mathlib.Core.Logic.Iff
 use Rattle.std.specs.declared.ops.Range.{Range}
 use Rattle.std.specs.List.{list_any, range_with_len}
 use Rattle.std.proofs.lemmas.Bool.{le-leb, leb-true}
 use Rattle.std.proofs.lemmas.Bool.Decides.{Decides-and, Decides-eqb, Decides-like, Decides-ltb, Decides-not, Decides-or}
-use Rattle.rules.specs.Roads.{FromTo, OnPath, Road, RoadsStand, apart, centre, column, from_to, has_road, linked, nearer, on_path, road_to, row, site}
 use Rattle.rules.specs.Places.{places}
-use Rattle.rules.proofs.Testing.{found_in, some_place, test_one, test_zero}
+use Rattle.rules.specs.Roads.{FromTo, OnPath, Road, RoadsStand, apart, centre, column, from_to, has_road, linked, nearer, on_path, road_to, row, site}
+use Rattle.rules.proofs.Testing.{answers_stand, found_in, some_place}
 
 -- ---- what the tests of places say
 
@@ -33,18 +32,18 @@ on_path_is a b c =
     (Decides-and (eqb (column c) (column b)) along_column (Decides-eqb (column c) (column b)) (from_to_is (row a) (row b) (row c)))
 
 module _ (hs : List ℕ) where
-  -- a settlement, where i is a place
-  abbrev Settled : ℕ → Type 0
-  Settled i = get_or hs i 0 ≡ 0 → ⊥
+  -- what is a settlement, where i is a place
+  abbrev Not0 : ℕ → Type 0
+  Not0 i = get_or hs i 0 ≡ 0 → ⊥
 
-  site_is : (i : ℕ) → Decides (site hs i) (Settled i)
+  site_is : (i : ℕ) → Decides (site hs i) (Not0 i)
   site_is i = Decides-not (eqb (get_or hs i 0) 0) (Decides-eqb (get_or hs i 0) 0)
 
   -- ---- settlements nearer to both
 
   module _ (a b : ℕ) where
     abbrev Nearer : ℕ → Type 0
-    Nearer c = Settled c × ((apart c a < apart a b) × (apart c b < apart a b))
+    Nearer c = Not0 c × ((apart c a < apart a b) × (apart c b < apart a b))
 
     nearer_is : (c : ℕ) → Decides (nearer hs a b c) (Nearer c)
     nearer_is c =
@@ -77,7 +76,7 @@ module _ (hs : List ℕ) where
     -- ---- roads
 
     abbrev RoadTo : Type 0
-    RoadTo = Settled b × (OnPath a b centre × Close)
+    RoadTo = Not0 b × (OnPath a b centre × Close)
 
     road_to_is : Decides (road_to hs a b) RoadTo
     road_to_is =
@@ -98,7 +97,7 @@ module _ (hs : List ℕ) where
     road_from = site hs a && list_any (road_to hs a) (places 529)
 
     abbrev RoadFrom : Type 0
-    RoadFrom = Settled a × ((b : ℕ) × (b < 529) × RoadTo a b)
+    RoadFrom = Not0 a × ((b : ℕ) × (b < 529) × RoadTo a b)
 
     road_from_is : Decides road_from RoadFrom
     road_from_is =
@@ -146,4 +145,4 @@ module _ (hs : List ℕ) where
         found_in road_from RoadFrom road_from_is s from to 529 e fits (λ a h (_, (b, _, t)). let r = road_to_rows a b t in (omega arith, omega arith))
 
 pub roads_stand : RoadsStand
-roads_stand hs = (Iff.trans (test_one (has_road hs)) (has_road_is hs), Iff.trans (test_zero (has_road hs)) (Iff.not (has_road_is hs)))
+roads_stand hs = answers_stand (has_road hs) (has_road_is hs)

@@ -1,14 +1,13 @@
 -- The test of a settlement says that the centre outranks all others. Assumes nothing.
-use Rattle.std.proofs.Common.{◌≡◌, ℕ, Bool, true, ◌&&◌, ◌||◌, eqb, ltb, ◌↔◌, Decides, List, length, get_or, ap, ◌∙◌, inl, inr, ⊎_elim, zero-add, arith}
-use mathlib.Core.Logic.Iff
+use Rattle.std.proofs.Common.{◌≡◌, ℕ, Bool, ◌&&◌, ◌||◌, eqb, ltb, Decides, List, length, get_or, ap, ◌∙◌, inl, inr, ⊎_elim, zero-add, arith}
 use Rattle.std.specs.List.{enumerate_from, list_all}
 use Rattle.std.proofs.lemmas.Bool.{cases_eq}
 use Rattle.std.proofs.lemmas.Bool.Decides.{Decides-and, Decides-eqb, Decides-like, Decides-ltb, Decides-or}
 use Rattle.std.proofs.lemmas.List.Folds.{list_all-map}
 use Rattle.std.proofs.lemmas.List.FromFn.{fill_by_all, get_or-enumerate_from, length-enumerate_from}
-use Rattle.rules.specs.Settlements.{Outranks, SettlementsStand, Settles, centre, outranks, settles}
 use Rattle.rules.specs.Places.{places}
-use Rattle.rules.proofs.Testing.{each_place, test_one, test_zero}
+use Rattle.rules.specs.Settlements.{Outranks, SettlementsStand, Settles, centre, outranks, settles}
+use Rattle.rules.proofs.Testing.{answers_stand, each_place}
 
 module _ (hs : List ℕ) where
   outranks_is : (i j : ℕ) → Decides (outranks hs i j) (Outranks hs i j)
@@ -26,10 +25,8 @@ module _ (hs : List ℕ) where
       (λ o. ⊎_elim inl (λ ne. inr (o ne)) (cases_eq j centre))
       (Decides-or (eqb j centre) (outranks hs centre j) (Decides-eqb j centre) (outranks_is centre j))
 
-  settles_is : (settles hs ≡ true) ↔ Settles hs
-  settles_is =
-      let all = each_place (λ j. eqb j centre || outranks hs centre j) (λ j. (j ≡ centre → ⊥) → Outranks hs centre j) passes_is 25 in
-      (λ e j h. all.0 e j h, λ s. all.1 s)
+  settles_is : Decides (settles hs) (Settles hs)
+  settles_is = each_place (λ j. eqb j centre || outranks hs centre j) (λ j. (j ≡ centre → ⊥) → Outranks hs centre j) passes_is 25
 
   -- a cell of the square: its place and its height
   abbrev pub passes : ℕ × ℕ → Bool
@@ -43,4 +40,4 @@ module _ (hs : List ℕ) where
       ∙ list_all-map passes cell (places 25)
 
 pub settlements : SettlementsStand
-settlements hs = (Iff.trans (test_one (settles hs)) (settles_is hs), Iff.trans (test_zero (settles hs)) (Iff.not (settles_is hs)))
+settlements hs = answers_stand (settles hs) (settles_is hs)

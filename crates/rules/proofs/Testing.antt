@@ -47,10 +47,6 @@ module _ (p : ℕ → Bool) (P : ℕ → Type 0) (is : (i : ℕ) → Decides (p 
       rw e (ap (list_any p) (map-id (range_with_len from (to - from))) ∙ same_from_decides _ _ here (some_place n))
 
 -- a test that answers 1 or 0
-pub test_one : (b : Bool) → (◌≡◌ {A = ℕ} (cond b 1 0) 1) ↔ (b ≡ true)
-test_one true = (λ e. refl, λ e. refl)
-test_one false = (λ e. absurd (omega arith), λ e. absurd (false≢true e))
-
-pub test_zero : (b : Bool) → (◌≡◌ {A = ℕ} (cond b 1 0) 0) ↔ (b ≡ true → ⊥)
-test_zero true = (λ e. absurd (omega arith), λ n. absurd (n refl))
-test_zero false = (λ e. false≢true, λ n. refl)
+pub answers_stand : {P : Type 0} (b : Bool) → Decides b P → ((◌≡◌ {A = ℕ} (cond b 1 0) 1) ↔ P) × ((◌≡◌ {A = ℕ} (cond b 1 0) 0) ↔ (P → ⊥))
+answers_stand true is = ((λ _. is.0 refl, λ _. refl), (λ e. absurd (omega arith), λ none. absurd (none (is.0 refl))))
+answers_stand false is = ((λ e. absurd (omega arith), λ p. absurd (false≢true (is.1 p))), (λ _ p. false≢true (is.1 p), λ _. refl))

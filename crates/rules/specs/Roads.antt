@@ -11,8 +11,8 @@ use Rattle.std.specs.Prelude.{◌≡◌, ℕ, ◌+◌, ◌-◌, ◌/◌, ◌%◌
 use Rattle.std.specs.List.{list_any}
 use Rattle.std.proofs.Common.{arith}
 use Rattle.grid.specs.Piles.{Fit, Stencil}
-use Rattle.rules.specs.Settlements.{test_low}
 use Rattle.rules.specs.Places.{places}
+use Rattle.rules.specs.Settlements.{test_low}
 
 abbrev pub centre : ℕ
 centre = 264

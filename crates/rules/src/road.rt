@@ -1,8 +1,8 @@
 // Road: a cell on the path between two linked settlements.
 ghost use Rattle.std.specs.Prelude.{◌≡◌, ◌<◌, length};
-ghost use Rattle.rules.specs.Roads.{apart, centre, column, from_to, has_road, linked, nearer, on_path, road, road_fit, road_to, row, site};
 ghost use Rattle.std.specs.List.{list_any};
 ghost use Rattle.rules.specs.Places.{places};
+ghost use Rattle.rules.specs.Roads.{apart, centre, column, from_to, has_road, linked, nearer, on_path, road, road_fit, road_to, row, site};
 
 use grid::rule::Rule;
 
@@ -46,7 +46,6 @@ impl Place {
         self.index % SIDE
     }
 
-    // The distance of two places.
     fn distance(self, other: Self) -> usize
         ensures { result ≡ apart self.index other.index }
     {
@@ -67,8 +66,8 @@ fn is_between(a: usize, b: usize, c: usize) -> bool
 fn has_centre(a: Place, b: Place) -> bool
     ensures { result ≡ on_path a.index b.index centre }
 {
-    MIDDLE == a.row() && is_between(a.column(), b.column(), MIDDLE)
-        || MIDDLE == b.column() && is_between(a.row(), b.row(), MIDDLE)
+    a.row() == MIDDLE && is_between(a.column(), b.column(), MIDDLE)
+        || b.column() == MIDDLE && is_between(a.row(), b.row(), MIDDLE)
 }
 
 // The heights of a square.
@@ -79,7 +78,7 @@ struct Square<'a> {
 }
 
 impl Square<'_> {
-    fn has_site(self, place: Place) -> bool
+    fn is_site(self, place: Place) -> bool
         ensures { result ≡ site self.entry.heights.now place.index }
     {
         self.heights[place.index] != 0
@@ -92,9 +91,9 @@ impl Square<'_> {
         let length = a.distance(b);
         let first = (b.row() + 1).saturating_sub(length) * SIDE;
         let end = ((a.row() + length) * SIDE).min(AREA);
-        (first..end).map(Place::at).any(|c| self.has_site(c)
-            && c.distance(a) < length
-            && c.distance(b) < length)
+        (first..end).map(Place::at).any(|c| {
+            self.is_site(c) && c.distance(a) < length && c.distance(b) < length
+        })
     }
 
     fn are_linked(self, a: Place, b: Place) -> bool
@@ -109,7 +108,7 @@ impl Square<'_> {
     {
         (MIDDLE * SIDE..(MIDDLE + LONGEST_LINK + 1) * SIDE)
             .map(Place::at)
-            .any(|b| self.has_site(b) && has_centre(a, b) && self.are_linked(a, b))
+            .any(|b| self.is_site(b) && has_centre(a, b) && self.are_linked(a, b))
     }
 
     // A path that has the centre begins in its row or above, and not far.
@@ -118,7 +117,7 @@ impl Square<'_> {
     {
         ((MIDDLE - LONGEST_LINK) * SIDE..(MIDDLE + 1) * SIDE)
             .map(Place::at)
-            .any(|a| self.has_site(a) && self.has_road_from(a))
+            .any(|a| self.is_site(a) && self.has_road_from(a))
     }
 }
 
