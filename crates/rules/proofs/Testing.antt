@@ -1,59 +1,52 @@
--- What the tests of numbers below a bound say. Assumes nothing.
-use Rattle.std.proofs.Common.{◌≡◌, ℕ, zero, suc, ◌<◌, Bool, true, false, cond, ◌↔◌, sym, refl, ap, ◌∙◌, ⊎_elim, arith}
-use Rattle.std.proofs.lemmas.Bool.{and_from, and_left, and_parts, and_right, cases_eq, false≢true, or_cases, or_from, or_left, or_right}
-use Rattle.rules.specs.Tests.{each, some}
+-- What tests of the places of a square say. Assumes nothing.
+use Rattle.std.proofs.Common.{◌≡◌, ℕ, ◌+◌, ◌-◌, ◌<◌, ◌≤◌, Bool, true, false, cond, ◌↔◌, Decides, map, get_or, refl, ap, ◌∙◌, subst, arith}
+use mathlib.Core.List.{map-id}
+use Rattle.std.specs.declared.ops.Range.{Range}
+use Rattle.std.specs.List.{list_all, list_any, range_with_len}
+use Rattle.std.proofs.lemmas.Bool.{false≢true}
+use Rattle.std.proofs.lemmas.Bool.Decides.{Decides-by_and, Decides-by_or, Decides-like, same_from_decides}
+use Rattle.std.proofs.lemmas.List.FromFn.{get_or-range_with_len, length-range_with_len}
+use Rattle.rules.specs.Places.{places}
 
-module _ (p : ℕ → Bool) where
-  -- ---- of every number
+module _ (p : ℕ → Bool) (P : ℕ → Type 0) (is : (i : ℕ) → Decides (p i) (P i)) where
+  -- some number passes, of n from a on
+  any_in : (a n : ℕ) → Decides (list_any p (range_with_len a n)) ((i : ℕ) × (a ≤ i) × (i < a + n) × P i)
+  any_in a n =
+      let size = length-range_with_len a n in
+      let at : (k d : ℕ) → k < n → get_or (range_with_len a n) k d ≡ a + k = get_or-range_with_len a n in
+      Decides-like
+      _
+      (λ (k, h, e). (a + k, omega arith, omega arith, subst P (at k 0 (omega arith)) (e 0)))
+      (λ (i, from, to, e). (i - a, omega arith, λ d. subst P (omega (arith, at (i - a) d (omega arith))) e))
+      (Decides-by_or p P (list_any p) is refl (λ _ _. refl) (range_with_len a n))
 
-  each_all : (n : ℕ) → each n p ≡ true → (i : ℕ) → i < n → p i ≡ true
-  unfolding each
-  each_all zero e i h = absurd (omega arith)
-  each_all (suc n) e i h =
-      let r = and_parts (each n p) (p n) e in
-      ⊎_elim (λ s. ap p s ∙ r.1) (λ ne. each_all n r.0 i (omega arith)) (cases_eq i n)
+  pub some_place : (n : ℕ) → Decides (list_any p (places n)) ((i : ℕ) × (i < n) × P i)
+  unfolding places
+  some_place n = Decides-like _ (λ (i, _, h, e). (i, omega arith, e)) (λ (i, h, e). (i, omega arith, omega arith, e)) (any_in 0 n)
 
-  all_each : (n : ℕ) → ((i : ℕ) → i < n → p i ≡ true) → each n p ≡ true
-  unfolding each
-  all_each zero all = refl
-  all_each (suc n) all = and_from (each n p) (p n) (all_each n (λ i h. all i (omega arith))) (all n (omega arith))
+  pub each_place : (n : ℕ) → Decides (list_all p (places n)) ((i : ℕ) → i < n → P i)
+  unfolding places
+  each_place n =
+      let size = length-range_with_len 0 n in
+      let at : (k d : ℕ) → k < n → get_or (range_with_len 0 n) k d ≡ k = λ k d h. omega (arith, get_or-range_with_len 0 n k d h) in
+      Decides-like
+      _
+      (λ f i h. subst P (at i 0 h) (f i 0 (omega arith)))
+      (λ f k d h. subst P (omega (arith, at k d (omega arith))) (f k (omega arith)))
+      (Decides-by_and p P (list_all p) is refl (λ _ _. refl) (range_with_len 0 n))
 
-  pub each_true : (n : ℕ) → (each n p ≡ true) ↔ ((i : ℕ) → i < n → p i ≡ true)
-  each_true n = (each_all n, all_each n)
-
-  pub each_false : (n i : ℕ) → i < n → p i ≡ false → each n p ≡ false
-  unfolding each
-  each_false zero i h e = absurd (omega arith)
-  each_false (suc n) i h e =
-      ⊎_elim (λ s. and_right (each n p) (p n) (ap p (sym s) ∙ e)) (λ ne. and_left (each n p) (p n) (each_false n i (omega arith) e)) (cases_eq i n)
-
-  -- ---- of some number
-
-  some_one : (n : ℕ) → some n p ≡ true → (i : ℕ) × (i < n) × (p i ≡ true)
-  unfolding some
-  some_one zero e = absurd (false≢true e)
-  some_one (suc n) e =
-      ⊎_elim (λ l. let r = some_one n l in (r.0, omega (arith, r.1), r.2)) (λ r. (n, omega arith, r)) (or_cases (some n p) (p n) e)
-
-  one_some : (n i : ℕ) → i < n → p i ≡ true → some n p ≡ true
-  unfolding some
-  one_some zero i h e = absurd (omega arith)
-  one_some (suc n) i h e =
-      ⊎_elim (λ s. or_right (some n p) (p n) (ap p (sym s) ∙ e)) (λ ne. or_left (some n p) (p n) (one_some n i (omega arith) e)) (cases_eq i n)
-
-  pub some_true : (n : ℕ) → (some n p ≡ true) ↔ ((i : ℕ) × (i < n) × (p i ≡ true))
-  some_true n = (some_one n, λ (i, h, e). one_some n i h e)
-
-  pub some_false : (n : ℕ) → ((i : ℕ) → i < n → p i ≡ false) → some n p ≡ false
-  unfolding some
-  some_false zero none = refl
-  some_false (suc n) none = or_from (some n p) (p n) (some_false n (λ i h. none i (omega arith))) (none n (omega arith))
+  -- a search along a range need not look where there can be none
+  pub found_in : (s : Range ℕ) (from to n : ℕ) → s ≡ record { start = from; end = to } → to ≤ n → ((i : ℕ) → i < n → P i → (from ≤ i) × (i < to)) → list_any p (map (λ i. i) (range_with_len s.start (s.end - s.start))) ≡ list_any p (places n)
+  found_in s from to n e fits only =
+      let here =
+      Decides-like
+      (list_any p (range_with_len from (to - from)))
+      (λ (i, after, before, e). (i, omega arith, e))
+      (λ (i, h, e). let r = only i h e in (i, r.0, omega arith, e))
+      (any_in from (to - from)) in
+      rw e (ap (list_any p) (map-id (range_with_len from (to - from))) ∙ same_from_decides _ _ here (some_place n))
 
 -- a test that answers 1 or 0
-pub test_one : (b : Bool) → (◌≡◌ {A = ℕ} (cond b 1 0) 1) ↔ (b ≡ true)
-test_one true = (λ e. refl, λ e. refl)
-test_one false = (λ e. absurd (omega arith), λ e. absurd (false≢true e))
-
-pub test_zero : (b : Bool) → (◌≡◌ {A = ℕ} (cond b 1 0) 0) ↔ (b ≡ true → ⊥)
-test_zero true = (λ e. absurd (omega arith), λ n. absurd (n refl))
-test_zero false = (λ e. false≢true, λ n. refl)
+pub answers_stand : {P : Type 0} (b : Bool) → Decides b P → ((◌≡◌ {A = ℕ} (cond b 1 0) 1) ↔ P) × ((◌≡◌ {A = ℕ} (cond b 1 0) 0) ↔ (P → ⊥))
+answers_stand true is = ((λ _. is.0 refl, λ _. refl), (λ e. absurd (omega arith), λ none. absurd (none (is.0 refl))))
+answers_stand false is = ((λ e. absurd (omega arith), λ p. absurd (false≢true (is.1 p))), (λ _ p. false≢true (is.1 p), λ _. refl))

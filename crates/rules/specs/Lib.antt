@@ -1,3 +1,3 @@
+pub mod Places
 pub mod Roads
 pub mod Settlements
-pub mod Tests

@@ -8,10 +8,11 @@
 --     road                the rule that answers 1 where that is so, else 0
 --     RoadsStand          so it does
 use Rattle.std.specs.Prelude.{◌≡◌, ℕ, ◌+◌, ◌-◌, ◌/◌, ◌%◌, ◌<◌, ◌≤◌, max, Bool, cond, not, ◌&&◌, ◌||◌, ◌⊎◌, ◌↔◌, List, ◌==◌, nat_le, nat_lt, slice_index, slice_index_or}
+use Rattle.std.specs.List.{list_any}
 use Rattle.std.proofs.Common.{arith}
 use Rattle.grid.specs.Piles.{Fit, Stencil}
+use Rattle.rules.specs.Places.{places}
 use Rattle.rules.specs.Settlements.{test_low}
-use Rattle.rules.specs.Tests.{each, some}
 
 abbrev pub centre : ℕ
 centre = 264
@@ -57,7 +58,7 @@ abbrev pub nearer : List ℕ → ℕ → ℕ → ℕ → Bool
 nearer hs a b c = site hs c && (nat_lt (apart c a) (apart a b) && nat_lt (apart c b) (apart a b))
 
 abbrev pub linked : List ℕ → ℕ → ℕ → Bool
-linked hs a b = nat_lt a b && (nat_le (apart a b) 6 && each 529 (λ c. not (nearer hs a b c)))
+linked hs a b = nat_lt a b && (nat_le (apart a b) 6 && not (list_any (nearer hs a b) (places 529)))
 
 abbrev pub from_to : ℕ → ℕ → ℕ → Bool
 from_to a b c = (nat_le a c && nat_le c b) || (nat_le b c && nat_le c a)
@@ -70,7 +71,7 @@ abbrev pub road_to : List ℕ → ℕ → ℕ → Bool
 road_to hs a b = site hs b && (on_path a b centre && linked hs a b)
 
 abbrev pub has_road : List ℕ → Bool
-has_road hs = some 529 (λ a. site hs a && some 529 (road_to hs a))
+has_road hs = list_any (λ a. site hs a && list_any (road_to hs a) (places 529)) (places 529)
 
 abbrev pub roaded : List ℕ → ℕ
 roaded hs = cond (has_road hs) 1 0

@@ -4,9 +4,10 @@
 --     settlement          the rule that answers 1 where that is so, else 0
 --     SettlementsStand    so it does
 use Rattle.std.specs.Prelude.{◌≡◌, ℕ, ◌<◌, ◌≤◌, Bool, true, false, cond, ◌&&◌, ◌||◌, ◌⊎◌, ◌↔◌, List, ◌==◌, ◌≢◌, nat_lt, slice_index}
+use Rattle.std.specs.List.{list_all}
 use Rattle.std.proofs.Common.{arith}
 use Rattle.grid.specs.Piles.{Fit, Stencil}
-use Rattle.rules.specs.Tests.{each}
+use Rattle.rules.specs.Places.{places}
 
 abbrev pub centre : ℕ
 centre = 12
@@ -22,7 +23,7 @@ abbrev pub outranks : List ℕ → ℕ → ℕ → Bool
 outranks hs i j = nat_lt (slice_index hs j) (slice_index hs i) || (slice_index hs j == slice_index hs i && nat_lt i j)
 
 abbrev pub settles : List ℕ → Bool
-settles hs = each 25 (λ j. (j == centre) || outranks hs centre j)
+settles hs = list_all (λ j. (j == centre) || outranks hs centre j) (places 25)
 
 abbrev pub settled : List ℕ → ℕ
 settled hs = cond (settles hs) 1 0

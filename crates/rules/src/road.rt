@@ -1,12 +1,15 @@
 // Road: a cell on the path between two linked settlements.
-ghost use Rattle.std.specs.Prelude.{◌≡◌, ◌<◌, not, length};
-ghost use Rattle.rules.specs.Roads.{apart, centre, from_to, linked, nearer, on_path, road, road_fit, road_to};
-ghost use Rattle.rules.specs.Tests.{each, some};
+ghost use Rattle.std.specs.Prelude.{◌≡◌, ◌<◌, length};
+ghost use Rattle.std.specs.List.{list_any};
+ghost use Rattle.rules.specs.Places.{places};
+ghost use Rattle.rules.specs.Roads.{apart, centre, column, from_to, has_road, linked, nearer, on_path, road, road_fit, road_to, row, site};
 
 use grid::rule::Rule;
 
 // The square has 23 rows of 23 cells, and its centre is in row and column 11.
 const SIDE: usize = 23;
+
+const AREA: usize = SIDE * SIDE;
 
 const MIDDLE: usize = 11;
 
@@ -16,13 +19,40 @@ const LONGEST_LINK: usize = 6;
 #[derive(Clone, Copy, Debug)]
 pub struct Road {}
 
-// The distance of two places of the square.
-fn apart(i: usize, j: usize) -> usize
-    ensures { result ≡ apart i j }
-{
-    let rows = (i / SIDE).abs_diff(j / SIDE);
-    let columns = (i % SIDE).abs_diff(j % SIDE);
-    rows.max(columns)
+// A place of the square: its number in reading order.
+#[derive(Clone, Copy)]
+struct Place {
+    index: usize,
+    ghost within: { index < 529 },
+}
+
+impl Place {
+    fn at(index: usize) -> Self
+        requires { index < 529 }
+        ensures { result.index ≡ index }
+    {
+        Place { index }
+    }
+
+    fn row(self) -> usize
+        ensures { result ≡ row self.index }
+    {
+        self.index / SIDE
+    }
+
+    fn column(self) -> usize
+        ensures { result ≡ column self.index }
+    {
+        self.index % SIDE
+    }
+
+    fn distance(self, other: Self) -> usize
+        ensures { result ≡ apart self.index other.index }
+    {
+        let rows = self.row().abs_diff(other.row());
+        let columns = self.column().abs_diff(other.column());
+        rows.max(columns)
+    }
 }
 
 // Whether `c` lies from `a` to `b`, whichever is the greater.
@@ -33,47 +63,62 @@ fn is_between(a: usize, b: usize, c: usize) -> bool
 }
 
 // Whether the centre lies on the path from `a` along its row to the column of `b`, and along that column to `b`.
-fn has_centre(a: usize, b: usize) -> bool
-    ensures { result ≡ on_path a b centre }
+fn has_centre(a: Place, b: Place) -> bool
+    ensures { result ≡ on_path a.index b.index centre }
 {
-    MIDDLE == a / SIDE && is_between(a % SIDE, b % SIDE, MIDDLE)
-        || MIDDLE == b % SIDE && is_between(a / SIDE, b / SIDE, MIDDLE)
+    a.row() == MIDDLE && is_between(a.column(), b.column(), MIDDLE)
+        || b.column() == MIDDLE && is_between(a.row(), b.row(), MIDDLE)
 }
 
-// Whether some settlement is nearer to both than they are to each other. Such a one lies in few rows.
-fn is_crowded(square: &[u16], a: usize, b: usize) -> bool
-    requires { (length square.now ≡ 529) × ((a < 529) × (b < 529)) }
-    ensures { result ≡ not (each 529 (λ c. not (nearer square.now a b c))) }
-{
-    let length = apart(a, b);
-    let first = (b / SIDE + 1).saturating_sub(length) * SIDE;
-    let end = ((a / SIDE + length) * SIDE).min(square.len());
-    for c in first..end {
-        if square[c] != 0 && apart(c, a) < length && apart(c, b) < length {
-            return true;
-        }
+// The heights of a square.
+#[derive(Clone, Copy)]
+struct Square<'a> {
+    heights: &'a [u16],
+    ghost whole: { length heights.now ≡ 529 },
+}
+
+impl Square<'_> {
+    fn is_site(self, place: Place) -> bool
+        ensures { result ≡ site self.entry.heights.now place.index }
+    {
+        self.heights[place.index] != 0
     }
-    false
-}
 
-fn are_linked(square: &[u16], a: usize, b: usize) -> bool
-    requires { (length square.now ≡ 529) × ((a < 529) × (b < 529)) }
-    ensures { result ≡ linked square.now a b }
-{
-    a < b && apart(a, b) <= LONGEST_LINK && !is_crowded(square, a, b)
-}
-
-// Whether the centre lies on a path from `a`. Where it does, the other end is in its row or below, and not far.
-fn has_road_from(square: &[u16], a: usize) -> bool
-    requires { (length square.now ≡ 529) × (a < 529) }
-    ensures { result ≡ some 529 (road_to square.now a) }
-{
-    for b in MIDDLE * SIDE..(MIDDLE + LONGEST_LINK + 1) * SIDE {
-        if square[b] != 0 && has_centre(a, b) && are_linked(square, a, b) {
-            return true;
-        }
+    // Whether some settlement is nearer to both than they are to each other. Such a one lies in few rows.
+    fn is_crowded(self, a: Place, b: Place) -> bool
+        ensures { result ≡ list_any (nearer self.entry.heights.now a.index b.index) (places 529) }
+    {
+        let length = a.distance(b);
+        let first = (b.row() + 1).saturating_sub(length) * SIDE;
+        let end = ((a.row() + length) * SIDE).min(AREA);
+        (first..end).map(Place::at).any(|c| {
+            self.is_site(c) && c.distance(a) < length && c.distance(b) < length
+        })
     }
-    false
+
+    fn are_linked(self, a: Place, b: Place) -> bool
+        ensures { result ≡ linked self.entry.heights.now a.index b.index }
+    {
+        a.index < b.index && a.distance(b) <= LONGEST_LINK && !self.is_crowded(a, b)
+    }
+
+    // Whether the centre lies on a path from `a`. Where it does, the other end is in its row or below, and not far.
+    fn has_road_from(self, a: Place) -> bool
+        ensures { result ≡ list_any (road_to self.entry.heights.now a.index) (places 529) }
+    {
+        (MIDDLE * SIDE..(MIDDLE + LONGEST_LINK + 1) * SIDE)
+            .map(Place::at)
+            .any(|b| self.is_site(b) && has_centre(a, b) && self.are_linked(a, b))
+    }
+
+    // A path that has the centre begins in its row or above, and not far.
+    fn has_road(self) -> bool
+        ensures { result ≡ has_road self.entry.heights.now }
+    {
+        ((MIDDLE - LONGEST_LINK) * SIDE..(MIDDLE + 1) * SIDE)
+            .map(Place::at)
+            .any(|a| self.is_site(a) && self.has_road_from(a))
+    }
 }
 
 impl Rule for Road {
@@ -85,13 +130,7 @@ impl Rule for Road {
         11
     }
 
-    // A path that has the centre begins in its row or above, and not far.
     fn answer(&self, square: &[u16]) -> u16 {
-        for a in (MIDDLE - LONGEST_LINK) * SIDE..(MIDDLE + 1) * SIDE {
-            if square[a] != 0 && has_road_from(square, a) {
-                return 1;
-            }
-        }
-        0
+        u16::from(Square { heights: square }.has_road())
     }
 }

@@ -1,6 +1,5 @@
 // Settlement: a cell that outranks all others of its square.
-ghost use Rattle.std.specs.Prelude.{◌≡◌, ◌<◌, length};
-ghost use Rattle.rules.specs.Settlements.{outranks, settlement, settlement_fit};
+ghost use Rattle.rules.specs.Settlements.{settlement, settlement_fit};
 
 use grid::rule::Rule;
 
@@ -9,14 +8,6 @@ const CENTRE: usize = 12;
 
 #[derive(Clone, Copy, Debug)]
 pub struct Settlement {}
-
-// Whether the height at place `i` is greater than that at place `j`, or equal and earlier.
-fn outranks(square: &[u16], i: usize, j: usize) -> bool
-    requires { (i < length square.now) × (j < length square.now) }
-    ensures { result ≡ outranks square.now i j }
-{
-    square[j] < square[i] || square[j] == square[i] && i < j
-}
 
 impl Rule for Settlement {
     ghost stencil = { λ _. settlement };
@@ -27,12 +18,12 @@ impl Rule for Settlement {
         2
     }
 
+    // The centre outranks a cell where its height is greater, or equal and earlier.
     fn answer(&self, square: &[u16]) -> u16 {
-        for place in 0..square.len() {
-            if place != CENTRE && !outranks(square, CENTRE, place) {
-                return 0;
-            }
-        }
-        1
+        let centre = square[CENTRE];
+        let settles = square.iter().enumerate().all(|(place, &height)| {
+            place == CENTRE || height < centre || height == centre && CENTRE < place
+        });
+        u16::from(settles)
     }
 }

@@ -3,12 +3,12 @@ use mathlib.Core.Logic.{⊎_elim}
 use native.Mathlib.Omega.{arith}
 use lib.ListN.{replicate}
 use Rattle.grid.specs.Piles.{nth_cell, square}
-use Rattle.rules.specs.Tests.{each, some}
+use Rattle.rules.specs.Places.{places}
 use Rattle.rules.proofs.Settling.{settlements}
 use Rattle.examples.proofs.examples.Goals as goal
 
 pub returns : goal.returns
-unfolding square nth_cell each some
+unfolding square nth_cell places
 returns c = record {
   output_0 = refl;
   output_1 = refl;

@@ -1,10 +1,22 @@
-use Rattle.std.proofs.Common.{sym, arith}
-use Rattle.rules.proofs.Settling.{answers_one, answers_zero}
+use Rattle.std.proofs.Common.{◌≡◌, ◌∙◌, rules, tests}
+use Rattle.std.proofs.lemmas.Iterator.{YieldsList-from_slice}
+use Rattle.std.proofs.lemmas.Iterator.Consumers.{YieldsList-from_enumerate}
+use Rattle.std.proofs.lemmas.Iterator.Search.{all_from_yields_List}
+use Rattle.rules.specs.Settlements.{settles}
+use Rattle.rules.proofs.Settling.{passes, settles_by_cells}
 use Rattle.rules.proofs.settlement.SettlementRule.answer.Goals as goal
 
-pub returns-then-not-outranks : goal.returns-then-not-outranks
-returns-then-not-outranks c _ =
-    answers_zero c.args.square.now c.loop-place.place (omega arith) c.if-place-ne-CENTRE.true (sym c.if-not-outranks.ensures)
-
 pub returns : goal.returns
-returns c _ = answers_one c.args.square.now (λ j h. c.loop-place.invariant j (omega arith))
+returns c _ =
+    let hs = c.args.square.now in
+    let e : c.all-settles.result ≡ settles hs =
+    all_from_yields_List
+    (passes hs)
+    _
+    _
+    _
+    c.all-settles.ensures.ran
+    (YieldsList-from_enumerate (YieldsList-from_slice hs (cc)) (cc))
+    (λ x b q k. search (rules, tests))
+    ∙ settles_by_cells hs c.requires in
+    search rules
