@@ -1,28 +1,27 @@
-// The kinds of coast, as piles over the noise.
-ghost use Rattle.std.specs.Prelude.{◌≡◌, [], ◌∷◌};
-ghost use Rattle.layers.specs.Rules.{smoothing};
-ghost use Rattle.std.specs.Option.{option_map};
-ghost use Rattle.sheets.specs.Kinds.{formula, heights_meaning, heights_ordered, rules_of};
+// The kinds of coast that `sheet` draws.
+ghost use Rattle.std.specs.Prelude.{◌≡◌};
+ghost use Rattle.std.specs.Option.{is_some, option_map};
+ghost use Rattle.coasts.specs.Kinds.{formula};
+ghost use Rattle.sheets.specs.Kinds.{rules_of};
 
+use coasts::kinds::Cached;
 use grid::blank::Blank;
 use grid::cell::Cell;
 use grid::field::Field;
 use grounds::noise::Noise;
-use layers::layer::Layer;
 use layers::smoothing::Smoothing;
 use request::Kind;
-use tables::cache::Cache;
+
+pub use coasts::kinds::heights;
 
 // Smoothing over a cache over a field.
-pub type Smoothed<F> = Layer<Cache<F>, Smoothing>;
+pub type Smoothed<F> = Cached<F, Smoothing>;
 
-// The pile of the kind `heights`: the noise, smoothed twice.
-pub fn heights(seed: u64) -> Smoothed<Smoothed<Noise>>
-    ensures meaning { heights_meaning result ≡ formula (smoothing ∷ smoothing ∷ []) seed }
-    ensures order { heights_ordered result }
+// Whether this kind is built.
+pub(crate) fn is_built(kind: Kind) -> bool
+    ensures { result ≡ is_some (rules_of kind) }
 {
-    let once = Layer::new(Cache::new(Noise::new(seed)), Smoothing {});
-    Layer::new(Cache::new(once), Smoothing {})
+    matches!(kind, Kind::Raw | Kind::Heights)
 }
 
 // What a kind answers at one cell, if the kind is built.

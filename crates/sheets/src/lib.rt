@@ -2,7 +2,5 @@
 #![tactic(auto)]
 
 pub mod answer;
-mod draw;
 pub mod error;
 pub mod kinds;
-mod text;
