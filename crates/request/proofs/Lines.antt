@@ -13,6 +13,7 @@ use Rattle.request.specs.declared.RequestRefusal.{RequestRefusal}
 use Rattle.request.specs.declared.RequestRefusal.TheVariants.{Unreadable}
 use Rattle.request.specs.Fields.{Begins, Printable}
 use Rattle.request.specs.Requests.{Asks, Int32, Opens, Reading, ReadingFields, kind_word, line_of}
+use Rattle.request.proofs.Decimals.{small}
 use Rattle.request.proofs.Cuts.{one_cut, printable_lacks}
 use Rattle.request.specs.Decimals.{printable_decimal, printable_signed}
 
@@ -25,13 +26,6 @@ printable_word Roads = search rules
 -- the second letters of the words differ
 one_kind : (k l : Kind) → kind_word k ≡ kind_word l → k ≡ l
 one_kind k l e = grind arith
-
-pub fits_32 : (z : ℤ) → Int32 z → SFits w32 z
-fits_32 z h = omega (arith, ints, h.0, h.1)
-
-small : (z : ℤ) → Int32 z → mag z < 2 ^ 63
-small (pos n) h = omega (arith, ints, h.1)
-small (negsuc n) h = omega (arith, ints, h.0)
 
 one_int : (y z : ℤ) → Int32 y → Int32 z → signed_decimal y ≡ signed_decimal z → y ≡ z
 one_int y z p q e = signed_decimal_injective y z (small y p) (small z q) e

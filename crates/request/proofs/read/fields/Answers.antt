@@ -1,7 +1,8 @@
 use Rattle.std.proofs.Common.{sym, subst, w32, SFits}
 use Rattle.std.proofs.lemmas.Int.{to_z-of_z}
 use Rattle.request.specs.Requests.{ReadingFields}
-use Rattle.request.proofs.Lines.{fits_32, height_left, kind_left, seed_left, whole, width_left, x_left, y_left}
+use Rattle.request.proofs.Lines.{height_left, kind_left, seed_left, whole, width_left, x_left, y_left}
+use Rattle.request.proofs.Decimals.{fits_32}
 use Rattle.request.proofs.read.fields.Goals as goal
 
 pub returns-in_err-kind : goal.returns-in_err-kind
