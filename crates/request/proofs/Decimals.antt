@@ -1,10 +1,10 @@
 -- Numbers as `parse` reads them, where the text is written as the number is shown. Assumes nothing.
 use Rattle.std.specs.Prelude.{◌≡◌, ℕ, zero, suc, ◌^◌, ◌<◌, ◌≤◌, List, [], ◌∷◌, length, ℤ, pos, negsuc, neg_ℤ, Some, None, Ok, Err, decimal, Option, Result, slice_index}
-use Rattle.std.proofs.Common.{sym, refl, ◌≢◌, ◌∙◌, ap, arith, pow_mono, subst, SFits, inl, inr}
+use Rattle.std.proofs.Common.{sym, ◌≢◌, ◌∙◌, ap, arith, subst, SFits, inl, inr}
 use Rattle.std.specs.Int.{IsInRange, w32}
 use lib.Signed.{mag}
 use Rattle.std.specs.Str.{IsAscii, IsUtf8}
-use Rattle.std.specs.Str.Parse.{AllDigits, ExplainsSignedError, ExplainsUnsignedError, HasSignedDigitsIfOk, HasUnsignedDigitsIfOk, ParsesSigned, ParsesUnsigned, digits_value}
+use Rattle.std.specs.Str.Parse.{AllDigits, ParsesSigned, ParsesUnsigned, digits_value}
 use Rattle.std.specs.Fmt.{signed_decimal}
 use Rattle.std.proofs.lemmas.Fmt.{IsAscii-decimal, IsAscii-signed, decimal_digit, decimal_is_IsNumeral, decimal_nonempty, decimal-digits_value, first_decimal, parse-decimal, parse-signed_decimal}
 use Rattle.std.proofs.lemmas.Str.{IsUtf8-from_ascii}
