@@ -8,7 +8,6 @@ ghost use Rattle.request.specs.Decimals.{printable_decimal, printable_signed};
 
 use crate::Kind;
 use crate::field::Field;
-use std::str;
 use std::str::FromStr;
 
 impl Field for Kind {
@@ -26,7 +25,8 @@ impl Field for Kind {
     }
 }
 
-// The number that the bytes write with no plus, no 0 in front of other digits, and no minus in front of a 0.
+// The number that the bytes write with no plus, no 0 before other digits and no minus before a 0, all of which `parse`
+// would take.
 fn number<N: FromStr>(bytes: &[u8]) -> Option<N>
 where
     N::Err: Drop,
