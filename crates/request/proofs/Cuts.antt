@@ -1,22 +1,20 @@
 -- A list cut at the first place of a byte. Assumes nothing.
-use Rattle.std.proofs.Common.{◌≡◌, ℕ, ◌+◌, ◌-◌, ◌<◌, ◌≤◌, List, [], ◌∷◌, ◌++◌, length, get_or, take, drop, sym, refl, ap, ◌∙◌, subst, arith, length-drop, take-append-drop}
-use lib.Seq.{take-length}
+use Rattle.std.proofs.Common.{◌≡◌, ℕ, ◌+◌, ◌-◌, ◌<◌, ◌≤◌, List, [], ◌∷◌, ◌++◌, length, get_or, take, drop, refl, subst, arith, rules, take-append-drop}
 use Rattle.std.specs.List.{AllByRecursion}
-use Rattle.std.proofs.ByRecursion.{All-weaker}
-use Rattle.std.proofs.lemmas.List.{drop_more}
+use Rattle.std.proofs.ByRecursion.{All-from_get_or, All-weaker}
+use Rattle.std.proofs.lemmas.List.{drop_more, get_or-take, take_rest}
 use Rattle.request.specs.Fields.{Printable}
 
 module _ (end : ℕ) where
   abbrev pub Lacks : List ℕ → Type 0
   Lacks bs = AllByRecursion (λ b. b ≡ end → ⊥) bs
 
-  -- the parts of a slice before and after a place, as the code has them
-  pub cut_here : (bs : List ℕ) (i : ℕ) → i < length bs → get_or bs i 0 ≡ end → bs ≡ take (i - 0) bs ++ end ∷ take (length bs - (i + 1)) (drop (i + 1) bs)
-  cut_here bs i h e =
-      let z : i - 0 ≡ i = omega arith in
-      let whole : take (length bs - (i + 1)) (drop (i + 1) bs) ≡ drop (i + 1) bs = ap (λ (n : ℕ). take n (drop (i + 1) bs)) (sym (length-drop (i + 1) bs)) ∙ take-length (drop (i + 1) bs) in
-      let back : drop i bs ≡ end ∷ take (length bs - (i + 1)) (drop (i + 1) bs) = drop_more bs i 0 h ∙ (λ t. e t ∷ sym whole t) in
-      sym (take-append-drop i bs) ∙ (λ t. take (sym z t) bs ++ back t)
+  -- a slice cut at its first `end`
+  pub cut_here : (bs : List ℕ) (i : ℕ) → i < length bs → get_or bs i 0 ≡ end → ((k : ℕ) → k < i → get_or bs k 0 ≡ end → ⊥) → (bs ≡ take i bs ++ end ∷ take (length bs - (i + 1)) (drop (i + 1) bs)) × Lacks (take i bs)
+  cut_here bs i h e before = (
+    cc (drop_more bs i 0 h, take_rest bs (i + 1), take-append-drop i bs, e),
+    All-from_get_or (λ b. b ≡ end → ⊥) (take i bs) 0 (λ k l. search (rules, get_or-take, before)),
+  )
 
   within : (front back : List ℕ) → Lacks (front ++ end ∷ back) → ⊥
   within [] back l = l.0 refl

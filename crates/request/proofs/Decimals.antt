@@ -1,112 +1,86 @@
--- Decimal texts, digit by digit. Assumes nothing.
-use Rattle.std.specs.Prelude.{◌≡◌, ℕ, zero, suc, ◌+◌, ◌-◌, ◌*◌, ◌^◌, ◌<◌, ◌≤◌, List, [], ◌∷◌, length, take, drop, ℤ, pos, negsuc, Some, None, Ok, Err, decimal, Option, Result, FitsSigned, ◌≢◌, slice_index, slice_index_or, unsigned_abs}
-use Rattle.std.proofs.Common.{sym, ◌∙◌, ap, subst, arith}
-use Rattle.std.proofs.Math.Seq.{take-length}
-use Rattle.std.specs.Result.{OkIff, result_ok}
-use Rattle.std.specs.Str.Parse.{AllDigits, digits_value, digits_value_after}
+-- Numbers as `parse` reads them, where the text is written as the number is shown. Assumes nothing.
+use Rattle.std.specs.Prelude.{◌≡◌, ℕ, zero, suc, ◌^◌, ◌<◌, ◌≤◌, List, [], ◌∷◌, length, ℤ, pos, negsuc, neg_ℤ, Some, None, Ok, Err, decimal, Option, Result, slice_index}
+use Rattle.std.proofs.Common.{sym, ◌≢◌, ◌∙◌, ap, arith, subst, SFits, inl, inr}
 use Rattle.std.specs.Int.{IsInRange, w32}
-use Rattle.std.specs.Char.{digit_value}
+use lib.Signed.{mag}
+use Rattle.std.specs.Str.{IsAscii, IsUtf8}
+use Rattle.std.specs.Str.Parse.{AllDigits, ParsesSigned, ParsesUnsigned, digits_value}
 use Rattle.std.specs.Fmt.{signed_decimal}
-use Rattle.std.proofs.lemmas.Fmt.{decimal_digit, decimal_is_IsNumeral, decimal-digits_value, first_decimal, decimal_injective}
-use Rattle.std.proofs.lemmas.Int.Digits.{digits_more, digits_value_more}
-use Rattle.std.proofs.lemmas.Str.Parse.{IsNumeralModel, digit_at, numerals_by_value, tells_digits}
+use Rattle.std.proofs.lemmas.Fmt.{IsAscii-decimal, IsAscii-signed, decimal_digit, decimal_is_IsNumeral, decimal_nonempty, decimal-digits_value, first_decimal, parse-decimal, parse-signed_decimal}
+use Rattle.std.proofs.lemmas.Str.{IsUtf8-from_ascii}
+use Rattle.std.proofs.lemmas.Str.Parse.{IsNumeralModel, digit_at, numerals_by_value, parse_plain, parse_signed_minus, parse_signed_plain, tells_digits}
+use Rattle.std.proofs.lemmas.Bool.{cases_eq}
 use Rattle.std.proofs.lemmas.Int.{ints}
-use Rattle.request.specs.Fields.{Spells}
-use Rattle.request.specs.Requests.{Int32, Negative32}
+use Rattle.request.specs.Fields.{Parsed, Plain, Spells}
+use Rattle.request.specs.Requests.{Int32}
 
 own : IsNumeralModel (AllDigits 10) (digits_value 10)
 own = numerals_by_value (AllDigits 10) tells_digits
 
--- digits only add to the value that is read before them
-value_grows : (n : ℕ) (ds : List ℕ) → n ≤ digits_value_after 10 n ds
-value_grows n [] = omega arith
-value_grows n (c ∷ cs) = omega (arith, value_grows (n * 10 + digit_value c) cs)
+-- a number is written with no 0 in front of other digits
+lead : (n : ℕ) → n < 2 ^ 64 → slice_index (decimal n) 0 ≡ 48 → length (decimal n) ≤ 1
+lead zero h e = omega (arith, ap length (decimal_digit 0 (omega arith)))
+lead (suc n) h e = omega (arith, first_decimal (suc n) (omega arith) h)
 
-value_take : (n i : ℕ) (ds : List ℕ) → digits_value_after 10 n (take i ds) ≤ digits_value_after 10 n ds
-value_take n zero ds = value_grows n ds
-value_take n (suc i) [] = omega arith
-value_take n (suc i) (c ∷ cs) = value_take (n * 10 + digit_value c) i cs
+plain_decimal : (n : ℕ) → n < 2 ^ 64 → Plain (decimal n)
+plain_decimal n h =
+    let first : IsInRange 48 57 (slice_index (decimal n) 0) = digit_at (decimal n) 0 (decimal_is_IsNumeral n h).0.1 (decimal_nonempty n h) in
+    record { plus = λ e. omega (arith, first); zero = lead n h; minus = λ e. omega (arith, first) }
 
--- the first i bytes are digits, and n is their value
-abbrev pub DigitsSoFar : List ℕ → ℕ → ℕ → Type 0
-DigitsSoFar bs i n = AllDigits 10 (take i bs) × (n ≡ digits_value 10 (take i bs))
+plain_signed : (z : ℤ) → Int32 z → Plain (signed_decimal z)
+plain_signed (pos n) h = plain_decimal n (omega (arith, ints, h.1))
+plain_signed (negsuc n) h =
+    let first = first_decimal (suc n) (omega arith) (omega (arith, ints, h.0)) in
+    record { plus = λ e. omega arith; zero = λ e. omega arith; minus = λ e f. omega (arith, first) }
 
--- what is known of the text of a number
-record Shape (n : ℕ) (bs : List ℕ) : Type 0 where
-  pub some : 0 < length bs
-  pub digits : AllDigits 10 bs
-  pub is : digits_value 10 bs ≡ n
-  pub lead : slice_index_or bs 0 0 ≡ 48 → length bs ≡ 1
+pub fits_32 : (z : ℤ) → Int32 z → SFits w32 z
+fits_32 z h = omega (arith, ints, h.0, h.1)
 
-lead_of : (n : ℕ) → n < 2 ^ 64 → slice_index (decimal n) 0 ≡ 48 → length (decimal n) ≡ 1
-lead_of zero h e = ap length (decimal_digit 0 (omega arith))
-lead_of (suc n) h e = omega (arith, first_decimal (suc n) (omega arith) h)
+pub small : (z : ℤ) → Int32 z → mag z < 2 ^ 63
+small (pos n) h = omega (arith, ints, h.1)
+small (negsuc n) h = omega (arith, ints, h.0)
 
-shape_of : (n : ℕ) → n < 2 ^ 64 → Shape n (decimal n)
-shape_of n h = let r = decimal_is_IsNumeral n h in record { some = r.0.0; digits = r.0.1; is = r.1; lead = lead_of n h }
+-- digits with no 0 in front are the text of their value
+shown : (bs : List ℕ) → AllDigits 10 bs → 0 < length bs → digits_value 10 bs < 2 ^ 64 → (slice_index bs 0 ≡ 48 → length bs ≤ 1) → bs ≡ decimal (digits_value 10 bs)
+shown bs digits some low lead = sym (decimal-digits_value own bs digits some (λ z. omega (arith, lead z)) low)
 
-module _ (n : ℕ) (bs : List ℕ) (fits : n < 2 ^ 64) (is : bs ≡ decimal n) where
-  shape : Shape n bs
-  shape = subst (Shape n) (sym is) (shape_of n fits)
+-- so what `parse` reads of plain text is the number of which that is the text
+read_unsigned : (E : Type 0) (k : ℕ) (bs : List ℕ) (n : ℕ) → 2 ^ k ≤ 2 ^ 64 → Plain bs → ParsesUnsigned {E = E} k 10 bs (Ok n) → n < 2 ^ k × (bs ≡ decimal n)
+read_unsigned E k bs n narrow plain parsed =
+    let read = parse_plain own {E = E} k bs (Ok n) parsed plain.plus in
+    (omega (arith, read.0.2, read.1), shown bs read.0.0 read.0.1 (omega (arith, read.0.2)) plain.zero ∙ sym (ap decimal read.1))
 
-  pub no_empty : length bs ≡ 0 → ⊥
-  no_empty z = omega (arith, shape.some)
+read_negative : (n b : ℕ) (ds : List ℕ) (z : ℤ) → n ≤ 2 ^ 31 → ds ≡ decimal n → slice_index ds 0 ≢ 48 → b ≡ 45 → z ≡ neg_ℤ (pos n) → Int32 z × (b ∷ ds ≡ signed_decimal z)
+read_negative zero b ds z low is first minus negated = absurd (first (cc (is, decimal_digit 0 (omega arith))))
+read_negative (suc n) b ds z low is first minus negated = ((omega (arith, ints), omega (arith, ints)), cc)
 
-  pub no_lead : slice_index_or bs 0 0 ≡ 48 → 1 < length bs → ⊥
-  no_lead z l = omega (arith, shape.lead z)
+read_signed : (E : Type 0) (bs : List ℕ) (z : ℤ) → Plain bs → ParsesSigned {E = E} w32 10 bs (Ok z) → Int32 z × (bs ≡ signed_decimal z)
+read_signed E [] z plain parsed = absurd (omega (arith, parsed.0.0.0))
+read_signed E (b ∷ ds) z plain parsed =
+    elim (cases_eq b 45) [
+      | inl minus ↦
+          let read = parse_signed_minus own {E = E} w32 (b ∷ ds) (Ok z) parsed minus in
+          read_negative (digits_value 10 ds) b ds z read.0.2 (shown ds read.0.0 read.0.1 (omega (arith, read.0.2)) (λ e. absurd (plain.minus minus e))) (plain.minus minus) minus read.1
+      | inr other ↦
+          let read = parse_signed_plain own {E = E} w32 (b ∷ ds) (Ok z) parsed plain.plus other in
+          ((omega (arith, ints, read.0.2, read.1), omega (arith, ints, read.0.2, read.1)), shown (b ∷ ds) read.0.0 read.0.1 (omega (arith, read.0.2)) plain.zero ∙ sym (ap signed_decimal read.1))
+    ]
 
-  pub no_other : (i : ℕ) → i < length bs → (48 ≤ slice_index bs i → slice_index bs i ≤ 57 → ⊥) → ⊥
-  no_other i l f = let d : IsInRange 48 57 (slice_index bs i) = digit_at bs i shape.digits l in f (omega (arith, d)) (omega (arith, d))
+-- and it reads each such text
+text_of : (bs ds : List ℕ) → bs ≡ ds → Plain ds → IsAscii ds → Plain bs × IsUtf8 bs
+text_of bs ds e plain ascii = subst (λ t. Plain t × IsUtf8 t) (sym e) (plain, IsUtf8-from_ascii ds ascii)
 
-  pub no_large : (i m : ℕ) → DigitsSoFar bs i m → 2 ^ 64 ≤ m → ⊥
-  no_large i m p big = omega (arith, p.1, value_take 0 i bs, shape.is)
+pub unsigned : {E : Type 0} {gives : List ℕ → Result ℕ E → Type 0} (k : ℕ) (bs : List ℕ) (r : Option ℕ) → 2 ^ k ≤ 2 ^ 64 → Parsed gives bs r → ((s : Result ℕ E) → gives bs s → ParsesUnsigned k 10 bs s) → Spells decimal (λ n. n < 2 ^ k) bs r
+unsigned {E} k bs (Some n) narrow p parses = read_unsigned E k bs n narrow p.some.0 (parses (Ok n) p.some.1)
+unsigned k bs None narrow p parses = λ n fits e.
+    let low : n < 2 ^ 64 = omega arith in
+    let text = text_of bs (decimal n) e (plain_decimal n low) (IsAscii-decimal n low) in
+    let failed = p.none text.0 text.1 in
+    absurd (cc (parse-decimal k n bs (Err failed.0) fits low e (parses (Err failed.0) failed.1)))
 
-digit_is : (c : ℕ) → 48 ≤ c → c ≤ 57 → digit_value c ≡ c - 48
-digit_is c h k = grind arith
-
-pub one_more : (bs : List ℕ) (i n d : ℕ) → i < length bs → 48 ≤ slice_index bs i → slice_index bs i ≤ 57 → d ≡ slice_index bs i - 48 → DigitsSoFar bs i n → DigitsSoFar bs (i + 1) (n * 10 + d)
-one_more bs i n d l a b e p =
-    let g = digit_is (slice_index bs i) a b in
-    let m = digits_value_more 10 bs i l in
-    (digits_more 10 bs i l p.0 (omega arith), omega (arith, p.1))
-
-pub whole_text : (bs : List ℕ) (i n : ℕ) → i ≡ length bs → 0 < length bs → (slice_index bs 0 ≡ 48 → length bs ≡ 1) → n < 2 ^ 64 → DigitsSoFar bs i n → bs ≡ decimal n
-whole_text bs i n ended some lead fits p =
-    let q : AllDigits 10 bs × (n ≡ digits_value 10 bs) = subst (λ (x : List ℕ). AllDigits 10 x × (n ≡ digits_value 10 x)) (ap (λ (k : ℕ). take k bs) ended ∙ take-length bs) p in
-    sym (decimal-digits_value own bs q.0 some lead (omega (arith, q.1))) ∙ sym (ap decimal q.1)
-
--- a number begins with a digit
-no_minus : (n : ℕ) (ds : List ℕ) → n < 2 ^ 64 → 45 ∷ ds ≢ decimal n
-no_minus n ds h e = no_other n (45 ∷ ds) h e 0 (omega arith) (λ a b. omega (arith, a))
-
--- a text that begins with a minus is a number if the rest is the text of a negative one
-minus : (ds : List ℕ) (r : Option ℤ) → Spells (λ (z : ℤ). decimal (unsigned_abs z)) Negative32 ds r → Spells signed_decimal Int32 (45 ∷ ds) r
-minus ds (Some (pos m)) p = absurd (omega (arith, ints, p.0.1))
-minus ds (Some (negsuc m)) p = ((p.0.0, omega (arith, ints)), ap (λ (t : List ℕ). 45 ∷ t) p.1)
-minus ds None f = λ z h e. none z h e
-  where
-    none : (z : ℤ) → Int32 z → 45 ∷ ds ≢ signed_decimal z
-    none (pos m) h e = no_minus m ds (omega (arith, ints, h.1)) e
-    none (negsuc m) h e = f (negsuc m) (h.0, omega (arith, ints)) (cc)
-
-pub with_minus : (bs : List ℕ) (r : Option ℤ) → 0 < length bs → slice_index bs 0 ≡ 45 → Spells (λ (z : ℤ). decimal (unsigned_abs z)) Negative32 (take (length bs - 1) (drop 1 bs)) r → Spells signed_decimal Int32 bs r
-with_minus [] r some first s = absurd (omega (arith, some))
-with_minus (b ∷ ds) r some first s =
-    let n : suc (length ds) - 1 ≡ length ds = omega arith in
-    let rest : Spells (λ (z : ℤ). decimal (unsigned_abs z)) Negative32 ds r = subst (λ (t : List ℕ). Spells (λ (z : ℤ). decimal (unsigned_abs z)) Negative32 t r) (ap (λ (k : ℕ). take k ds) n ∙ take-length ds) s in
-    subst (λ (c : ℕ). Spells signed_decimal Int32 (c ∷ ds) r) (sym first) (minus ds r rest)
-
--- what `try_from(..).ok()` answers of a number whose text is known
-pub narrowed : {Y E : Type 0} (text : Y → List ℕ) (P : Y → Type 0) (bs : List ℕ) (Q : Type 0) (v : Y) (r : Result Y E) (s : Option Y) → OkIff r Q v → s ≡ result_ok r → (Q → P v × (bs ≡ text v)) → ((Q → ⊥) → (u : Y) → P u → bs ≢ text u) → Spells text P bs s
-narrowed text P bs Q v (Ok x) s (q, e) is fits large = subst (Spells text P bs) (sym is) (subst (λ u. P u × (bs ≡ text u)) (sym e) (fits q))
-narrowed text P bs Q v (Err x) s n is fits large = subst (Spells text P bs) (sym is) (large n)
-
--- two numbers with one text are the same
-pub one_number : (bs : List ℕ) (m n : ℕ) → m < 2 ^ 64 → n < 2 ^ 64 → bs ≡ decimal m → bs ≡ decimal n → m ≡ n
-one_number bs m n p q a b = decimal_injective m n p q (sym a ∙ b)
-
-pub no_signed : (bs : List ℕ) (n : ℕ) → n < 2 ^ 64 → bs ≡ decimal n → (FitsSigned w32 (pos n) → ⊥) → (z : ℤ) → Int32 z → bs ≢ signed_decimal z
-no_signed bs n h a large (pos m) i e =
-    let same = one_number bs n m h (omega (arith, ints, i.1)) a e in
-    large (omega (arith, ints, i.1))
-no_signed bs n h a large (negsuc m) i e = no_minus n (decimal (suc m)) h (sym e ∙ a)
+pub signed : {E : Type 0} {gives : List ℕ → Result ℤ E → Type 0} (bs : List ℕ) (r : Option ℤ) → Parsed gives bs r → ((s : Result ℤ E) → gives bs s → ParsesSigned w32 10 bs s) → Spells signed_decimal Int32 bs r
+signed {E} bs (Some z) p parses = read_signed E bs z p.some.0 (parses (Ok z) p.some.1)
+signed bs None p parses = λ z fits e.
+    let text = text_of bs (signed_decimal z) e (plain_signed z fits) (IsAscii-signed z (small z fits)) in
+    let failed = p.none text.0 text.1 in
+    absurd (cc (parse-signed_decimal w32 z bs (Err failed.0) (fits_32 z fits) (small z fits) e (parses (Err failed.0) failed.1)))

@@ -1,40 +1,43 @@
 -- A request line, field by field: what was read of a line that a request opens is that request. Assumes nothing.
-use Rattle.std.proofs.Common.{◌≡◌, ℕ, ◌-◌, ◌^◌, ◌<◌, ◌≤◌, min, List, ◌∷◌, ◌++◌, length, take, drop, ℤ, pos, negsuc, Some, None, decimal, Option, Result, sym, ap, ◌∙◌, subst, append_assoc, arith, length-append, take-append-drop, length-take, pow_mono, w32, SFits, rules}
+use Rattle.std.proofs.Common.{◌≡◌, ℕ, ◌-◌, ◌^◌, ◌<◌, ◌≤◌, min, List, ◌∷◌, ◌++◌, length, take, drop, ℤ, Some, None, decimal, Option, Result, sym, ap, ◌∙◌, subst, append_assoc, arith, length-append, take-append-drop, length-take, rules}
 use lib.Seq.{take-append-add}
-use lib.Signed.{mag}
 use Rattle.std.specs.Fmt.{signed_decimal}
 use Rattle.std.proofs.lemmas.Fmt.{decimal_injective, signed_decimal_injective}
-use Rattle.std.proofs.lemmas.Int.{ints}
 use Rattle.std.specs.Option.{ok_or}
 use Rattle.request.specs.declared.Kind.{Kind}
-use Rattle.request.specs.declared.Kind.TheVariants.{Raw, Heights, Sites, Roads}
 use Rattle.request.specs.declared.Request.{Request}
 use Rattle.request.specs.declared.RequestRefusal.{RequestRefusal}
 use Rattle.request.specs.declared.RequestRefusal.TheVariants.{Unreadable}
 use Rattle.request.specs.Fields.{Begins, Printable}
 use Rattle.request.specs.Requests.{Asks, Int32, Opens, Reading, ReadingFields, kind_word, line_of}
+use Rattle.request.proofs.Decimals.{small}
 use Rattle.request.proofs.Cuts.{one_cut, printable_lacks}
 use Rattle.request.specs.Decimals.{printable_decimal, printable_signed}
 
-printable_word : (k : Kind) → Printable (kind_word k)
-printable_word Raw = search rules
-printable_word Heights = search rules
-printable_word Sites = search rules
-printable_word Roads = search rules
+-- a field that begins with the text of w is read as w
+abbrev OneField : {X : Type 0} → (X → List ℕ) → (X → Type 0) → ℕ → Type 0
+OneField {X} text P end = (v w : X) (bs back tail : List ℕ) → Begins text P end bs v back → P w → bs ≡ text w ++ end ∷ tail → (v ≡ w) × (back ≡ tail)
+
+one_field : {X : Type 0} (text : X → List ℕ) (P : X → Type 0) (end : ℕ) → end < 33 → ((v : X) → P v → Printable (text v)) → ((v w : X) → P v → P w → text v ≡ text w → v ≡ w) → OneField text P end
+one_field text P end low printable one_text = λ v w bs back tail b fits e.
+    let r = one_cut end (text v) (text w) back tail (printable_lacks end (text v) low (printable v b.fits)) (printable_lacks end (text w) low (printable w fits)) (sym b.is ∙ e) in
+    (one_text v w b.fits fits r.0, r.1)
+
+printable_word : (k : Kind) → Unit {0} → Printable (kind_word k)
+printable_word = search rules
 
 -- the second letters of the words differ
 one_kind : (k l : Kind) → kind_word k ≡ kind_word l → k ≡ l
 one_kind k l e = grind arith
 
-pub fits_32 : (z : ℤ) → Int32 z → SFits w32 z
-fits_32 z h = omega (arith, ints, h.0, h.1)
+one_word : OneField kind_word (λ _. Unit {0}) 32
+one_word = one_field kind_word (λ _. Unit {0}) 32 (omega arith) printable_word (λ k l _ _. one_kind k l)
 
-small : (z : ℤ) → Int32 z → mag z < 2 ^ 63
-small (pos n) h = omega (arith, ints, h.1)
-small (negsuc n) h = omega (arith, ints, h.0)
+one_number : (width end : ℕ) → 2 ^ width ≤ 2 ^ 64 → end < 33 → OneField decimal (λ n. n < 2 ^ width) end
+one_number width end narrow low = one_field decimal (λ n. n < 2 ^ width) end low (λ n h. printable_decimal n (omega arith)) (λ m n g h. decimal_injective m n (omega arith) (omega arith))
 
-one_int : (y z : ℤ) → Int32 y → Int32 z → signed_decimal y ≡ signed_decimal z → y ≡ z
-one_int y z p q e = signed_decimal_injective y z (small y p) (small z q) e
+one_coordinate : OneField signed_decimal Int32 32
+one_coordinate = one_field signed_decimal Int32 32 (omega arith) printable_signed (λ y z g h. signed_decimal_injective y z (small y g) (small z h))
 
 -- the line of q from each of its fields on, with what follows it
 module _ (q : Request) (after : List ℕ) where
@@ -59,10 +62,6 @@ module _ (q : Request) (after : List ℕ) where
   pub line_is : line_of q ++ after ≡ from_kind
   line_is = simp append_assoc
 
--- one field of two lines
-field : (end : ℕ) (a b back tail bs : List ℕ) → end < 33 → Printable a → Printable b → bs ≡ a ++ end ∷ back → bs ≡ b ++ end ∷ tail → (a ≡ b) × (back ≡ tail)
-field end a b back tail bs low p q e f = one_cut end a b back tail (printable_lacks end a low p) (printable_lacks end b low q) (sym e ∙ f)
-
 abbrev pub Word : List ℕ → Kind → List ℕ → Type 0
 Word = Begins kind_word (λ _. Unit {0}) 32
 
@@ -72,19 +71,6 @@ Number width end = Begins decimal (λ n. n < 2 ^ width) end
 abbrev pub Coordinate : List ℕ → ℤ → List ℕ → Type 0
 Coordinate = Begins signed_decimal Int32 32
 
-one_number : (width end m n : ℕ) (bs back tail : List ℕ) → end < 33 → width ≤ 64 → Number width end bs m back → n < 2 ^ width → bs ≡ decimal n ++ end ∷ tail → (m ≡ n) × (back ≡ tail)
-one_number width end m n bs back tail low narrow b fits e =
-    let most = pow_mono {i = width} {j = 64} narrow in
-    let p : m < 2 ^ 64 = omega (arith, b.fits) in
-    let q : n < 2 ^ 64 = omega arith in
-    let r = field end _ _ back tail bs low (printable_decimal m p) (printable_decimal n q) b.is e in
-    (decimal_injective m n p q r.0, r.1)
-
-one_coordinate : (y z : ℤ) (bs back tail : List ℕ) → Coordinate bs y back → Int32 z → bs ≡ signed_decimal z ++ 32 ∷ tail → (y ≡ z) × (back ≡ tail)
-one_coordinate y z bs back tail b fits e =
-    let r = field 32 _ _ back tail bs (omega arith) (printable_signed y b.fits) (printable_signed z fits) b.is e in
-    (one_int y z b.fits fits r.0, r.1)
-
 -- what each field was read as, and what is left after it, if q opens the bytes
 module _ (bs : List ℕ) (q : Request) (o : Opens bs q) where
   pub kind_left : bs ≡ from_kind q o.ignored
@@ -92,16 +78,14 @@ module _ (bs : List ℕ) (q : Request) (o : Opens bs q) where
 
   module _ {k : Kind} {bs₁ : List ℕ} (kind : Word bs k bs₁) where
     kinds : (k ≡ q.kind) × (bs₁ ≡ from_seed q o.ignored)
-    kinds =
-        let r = field 32 _ _ bs₁ _ bs (omega arith) (printable_word k) (printable_word q.kind) kind.is kind_left in
-        (one_kind k q.kind r.0, r.1)
+    kinds = one_word k _ bs bs₁ _ kind tt kind_left
 
     pub seed_left : bs₁ ≡ from_seed q o.ignored
     seed_left = kinds.1
 
     module _ {s : ℕ} {bs₂ : List ℕ} (seed : Number 64 32 bs₁ s bs₂) where
       seeds : (s ≡ q.seed) × (bs₂ ≡ from_x q o.ignored)
-      seeds = one_number 64 32 s _ bs₁ bs₂ _ (omega arith) (omega arith) seed o.in_range.seed seed_left
+      seeds = one_number 64 32 (omega arith) (omega arith) s _ bs₁ bs₂ _ seed o.in_range.seed seed_left
 
       pub x_left : bs₂ ≡ from_x q o.ignored
       x_left = seeds.1
@@ -122,14 +106,14 @@ module _ (bs : List ℕ) (q : Request) (o : Opens bs q) where
 
           module _ {w : ℕ} {bs₅ : List ℕ} (width : Number 16 32 bs₄ w bs₅) where
             widths : (w ≡ q.width) × (bs₅ ≡ from_height q o.ignored)
-            widths = one_number 16 32 w _ bs₄ bs₅ _ (omega arith) (omega arith) width o.in_range.width width_left
+            widths = one_number 16 32 (omega arith) (omega arith) w _ bs₄ bs₅ _ width o.in_range.width width_left
 
             pub height_left : bs₅ ≡ from_height q o.ignored
             height_left = widths.1
 
             module _ {h : ℕ} {bs₆ : List ℕ} (height : Number 16 10 bs₅ h bs₆) where
               heights : (h ≡ q.height) × (bs₆ ≡ o.ignored)
-              heights = one_number 16 10 h _ bs₅ bs₆ _ (omega arith) (omega arith) height o.in_range.height height_left
+              heights = one_number 16 10 (omega arith) (omega arith) h _ bs₅ bs₆ _ height o.in_range.height height_left
 
               pub same : q ≡ record { kind = k; seed = s; x = x; y = y; width = w; height = h }
               same = λ t. record { kind = sym kinds.0 t; seed = sym seeds.0 t; x = sym xs.0 t; y = sym ys.0 t; width = sym widths.0 t; height = sym heights.0 t }
@@ -172,7 +156,7 @@ module _ (n : ℕ) (bs : List ℕ) (q : Request) where
   )
 
 -- so the first 80 bytes tell for what the bytes ask
-module _ (bs : List ℕ) (n : ℕ) (front : n ≡ min (length bs) 80 - 0) where
+module _ (bs : List ℕ) (n : ℕ) (front : n ≡ min (length bs) 80) where
   asks_front : (q : Request) → Asks bs q → Opens (take n bs) q
   asks_front q a =
       opens_front n bs q a.opens (omega (arith, a.short, length-append (line_of q) a.opens.ignored, ap length a.opens.is))

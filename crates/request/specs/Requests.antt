@@ -1,6 +1,6 @@
 -- The request line. Assumes nothing.
 --     kind_word k          the word of a kind
---     Int32 z, Negative32 z     z fits 32 bits with a sign, and is negative too
+--     Int32 z              z fits 32 bits with a sign
 --     space, line_feed     the two bytes that part fields and end lines
 --     line_of q            the line of a request, its line feed included
 --     asked_corner q       the north-west cell of the window that is asked for
@@ -25,9 +25,6 @@ kind_word Roads = codes "roads"
 
 abbrev pub Int32 : ℤ → Type 0
 Int32 z = (neg_ℤ (pos (2 ^ 31)) ≤ℤ z) × (z <ℤ pos (2 ^ 31))
-
-abbrev pub Negative32 : ℤ → Type 0
-Negative32 z = (neg_ℤ (pos (2 ^ 31)) ≤ℤ z) × (z <ℤ pos 0)
 
 abbrev pub space : ℕ
 space = 32

@@ -19,12 +19,8 @@ pub(crate) trait Field: Sized {
 fn cut(bytes: &[u8], end: u8) -> Option<(&[u8], &[u8])>
     ensures { Cut end bytes.now result }
 {
-    for (i, b) in bytes.iter().enumerate() {
-        if *b == end {
-            return Some((&bytes[0..i], &bytes[i + 1..]));
-        }
-    }
-    None
+    let i = bytes.iter().position(|b| *b == end)?;
+    Some((&bytes[..i], &bytes[i + 1..]))
 }
 
 // The value that the bytes open with, its text ending with `end`, and what follows.

@@ -21,17 +21,28 @@ pub enum Kind {
     Roads,
 }
 
+impl Kind {
+    const ALL: [Kind; 4] = [Kind::Raw, Kind::Heights, Kind::Sites, Kind::Roads];
+
+    // The word that asks for this kind.
+    fn word(self) -> &'static str
+        ensures { result.now ≡ kind_word self }
+    {
+        match self {
+            Kind::Raw => "raw",
+            Kind::Heights => "heights",
+            Kind::Sites => "sites",
+            Kind::Roads => "roads",
+        }
+    }
+}
+
 // A kind is shown as the word that asks for it.
 impl fmt::Display for Kind {
     ghost output = { λ k. Some (kind_word k) };
 
     fn fmt<W: fmt::Write>(&self, f: &mut fmt::Formatter<W>) -> fmt::Result {
-        f.write_str(match self {
-            Kind::Raw => "raw",
-            Kind::Heights => "heights",
-            Kind::Sites => "sites",
-            Kind::Roads => "roads",
-        })
+        f.write_str(self.word())
     }
 }
 
@@ -45,11 +56,11 @@ pub struct Request {
     pub height: u16,
 }
 
-// Why no request was read.
+// Why no request was read. It has the number under which users know it.
 #[derive(Clone, Copy, Debug, PartialEq, Eq)]
 pub enum RequestRefusal {
     // The input does not open with the line of a request.
-    Unreadable,
+    Unreadable = 1,
 }
 
 impl RequestRefusal {
@@ -57,8 +68,6 @@ impl RequestRefusal {
     pub fn number(self) -> u8
         ensures { result ≡ request_refusal self }
     {
-        match self {
-            RequestRefusal::Unreadable => 1,
-        }
+        self as u8
     }
 }

@@ -35,7 +35,7 @@ impl Request {
         ensures { Reading bytes.now result }
     {
         let front = bytes.len().min(LONGEST_LINE);
-        fields(&bytes[0..front]).ok_or(RequestRefusal::Unreadable)
+        fields(&bytes[..front]).ok_or(RequestRefusal::Unreadable)
     }
 
     // The north-west cell of the window that is asked for.
