@@ -5,14 +5,13 @@ ghost use Rattle.coasts.specs.Kinds.{formula};
 ghost use Rattle.sheets.specs.Kinds.{rules_of};
 
 use coasts::kinds::Cached;
+pub use coasts::kinds::heights;
 use grid::blank::Blank;
 use grid::cell::Cell;
 use grid::field::Field;
 use grounds::noise::Noise;
 use layers::smoothing::Smoothing;
 use request::Kind;
-
-pub use coasts::kinds::heights;
 
 // Smoothing over a cache over a field.
 pub type Smoothed<F> = Cached<F, Smoothing>;
