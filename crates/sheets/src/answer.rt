@@ -13,8 +13,12 @@ pub fn answer(heap: Global, input: &[u8]) -> Result<String, SheetError>
     ensures { MatchResult result (λ t. Prints input.now (string_bytes t)) (Fails input.now) }
 {
     match Plan::read(input) {
-        Ok(plan) if is_built(plan.kind) => Ok(plan.draw(heap)?),
-        Ok(plan) => Err(SheetError::NotBuilt(plan.kind)),
+        Ok(plan) => {
+            if !is_built(plan.kind) {
+                return Err(SheetError::NotBuilt(plan.kind));
+            }
+            Ok(plan.draw(heap)?)
+        }
         Err(refusal) => Ok(refusal_line(heap, refusal.number())?),
     }
 }

@@ -1,17 +1,14 @@
 use Rattle.std.proofs.Common.{string_bytes, ap, ◌∙◌}
-use Rattle.std.specs.Option.{is_some}
-use Rattle.coasts.specs.declared.plan.Plan.{Plan}
 use Rattle.coasts.specs.Texts.{refusal_text}
-use Rattle.sheets.specs.Kinds.{rules_of}
 use Rattle.sheets.proofs.Plans.{fails_unbuilt, prints_built, prints_refusal}
 use Rattle.sheets.proofs.answer.answer.Goals as goal
 
 pub returns-in_ok-draw-in-Ok : goal.returns-in_ok-draw-in-Ok
 returns-in_ok-draw-in-Ok c =
-    prints_built c.args.input.now (string_bytes c.in_ok-draw-in-Ok.field-0) c.in-Ok.plan c.in-Ok.ensures c.if-is_built.ensures c.in_ok-draw-in-Ok.ensures
+    prints_built c.args.input.now (string_bytes c.in_ok-draw-in-Ok.field-0) c.in-Ok.plan c.in-Ok.ensures c.if-not-is_built.ensures c.in_ok-draw-in-Ok.ensures
 
-pub returns-in-Ok-2 : goal.returns-in-Ok-2
-returns-in-Ok-2 c = fails_unbuilt c.args.input.now c.in-Ok-2.plan c.in-Ok-2.ensures (c.if-is_built.ensures ∙ ap (λ (p : Plan). is_some (rules_of p.kind)) c.in-Ok-2.plan-is)
+pub returns-then-not-is_built : goal.returns-then-not-is_built
+returns-then-not-is_built c = fails_unbuilt c.args.input.now c.in-Ok.plan c.in-Ok.ensures c.if-not-is_built.ensures
 
 pub returns-in_ok-refusal_line-in-Err : goal.returns-in_ok-refusal_line-in-Err
 returns-in_ok-refusal_line-in-Err c =
