@@ -6,31 +6,29 @@ ghost use Rattle.sheet.specs.Input.{StopsAtLineFeed};
 
 use request::LONGEST_LINE;
 use sheets::answer::answer;
-use std::io;
+use std::alloc::Global;
 use std::io::Read;
 use std::process::ExitCode;
 
-// Reads up to the first line feed, and no byte more than a request line can have. The answer is how many bytes came.
-fn read_line(input: &mut impl Read, line: &mut [u8; LONGEST_LINE]) -> io::Result<usize>
-    ensures { IfOk result (StopsAtLineFeed line.new) }
+// The first line of the input, its line feed included, or as much of it as a request line can have. No byte after it is
+// read.
+fn read_line(alloc: Global, input: impl Read + Drop) -> anyhow::Result<Vec<u8>>
+    ensures { IfOk result (λ line. StopsAtLineFeed line.items) }
 {
-    for count in 0..LONGEST_LINE {
-        let mut next = [0; 1];
-        if input.read(&mut next)? == 0 {
-            return Ok(count);
-        }
-        line[count] = next[0];
-        if next[0] == b'\n' {
-            return Ok(count + 1);
+    let mut line = Vec::new(alloc);
+    for byte in input.bytes().take(LONGEST_LINE) {
+        let byte = byte?;
+        line.push(byte)?;
+        if byte == b'\n' {
+            break;
         }
     }
-    Ok(LONGEST_LINE)
+    Ok(line)
 }
 
 fn run(rt: &HostRuntime) -> anyhow::Result<()> {
-    let mut line = [0; LONGEST_LINE];
-    let count = read_line(&mut rt.stdin(), &mut line)?;
-    let text = answer(rt.alloc(), &line[0..count])?;
+    let line = read_line(rt.alloc(), rt.stdin())?;
+    let text = answer(rt.alloc(), &line)?;
     rt.print(text.as_str())?;
     Ok(())
 }

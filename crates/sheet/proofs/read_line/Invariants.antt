@@ -1,5 +1,6 @@
-use Rattle.std.proofs.Common.{◌≡◌, ℕ, ◌<◌, length, get_or}
+use Rattle.std.proofs.Common.{◌≡◌, ◌+◌, ◌≢◌, All, length}
+use Rattle.std.specs.Iterator.Adapters.{take_count}
 use Rattle.sheet.proofs.read_line.Given as goal
 
-abbrev pub invariant-loop-count : goal.invariant-loop-count
-invariant-loop-count g l = (length l.line ≡ 80) × ((k : ℕ) → k < l.count → get_or l.line k 0 ≡ 10 → ⊥)
+abbrev pub invariant-loop-byte : goal.invariant-loop-byte
+invariant-loop-byte g l = (length l.line.items + take_count l.byte-iterator ≡ 80) × All (λ b. b ≢ 10) l.line.items
