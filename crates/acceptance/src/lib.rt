@@ -11,6 +11,8 @@ mod noise_tests;
 #[cfg(test)]
 mod pile_tests;
 #[cfg(test)]
+mod reference;
+#[cfg(test)]
 mod sheet_tests;
 #[cfg(test)]
 mod track_tests;

@@ -11,10 +11,8 @@ fn published_outputs(rt: HostRuntime) {
         0x06C4_5D18_8009_454F,
         0xF88B_B8A8_724C_81EC,
     ];
-    let mut k: u64 = 0;
-    for expected in published {
+    for (k, expected) in (0u64..4).zip(published) {
         assert_eq!(rt; splitmix64(0, k), expected);
-        k = k.wrapping_add(1);
     }
 }
 

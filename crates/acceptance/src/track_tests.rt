@@ -11,6 +11,7 @@ use tracks::call::Call;
 use tracks::compare::compare;
 use tracks::replay::replay;
 use worlds::event::Event;
+use worlds::refusal::RowRefusal;
 
 // Whether a journal tells this cell at least once. It must have this height each time.
 fn check_told(rt: &impl Abort, journal: &[Event], cell: Cell, height: u16) {
@@ -49,9 +50,9 @@ fn a_track_tells_each_call(rt: HostRuntime) -> Result<(), Fail> {
     assert_eq!(rt; journal.len(), 17);
     assert!(rt; matches!(&journal[1], Event::Passed));
     assert!(rt; matches!(&journal[3], Event::Passed));
-    assert!(rt; matches!(&journal[4], Event::Refused(5)));
+    assert!(rt; matches!(&journal[4], Event::Refused(RowRefusal::Short)));
     assert!(rt; matches!(&journal[8], Event::Wrote));
-    assert!(rt; matches!(&journal[13], Event::Refused(4)));
+    assert!(rt; matches!(&journal[13], Event::Refused(RowRefusal::Full)));
     // Four chunks are touched, and the look has filled one of them before.
     assert!(rt; matches!(&journal[14], Event::Finished(3)));
     assert!(rt; matches!(&journal[15], Event::Cleared));
