@@ -1,5 +1,5 @@
 // What both plain Rust programs are made of: the cells, tables, noise and layers of the crates, with no contracts, and the tally.
-// Each includes this text as its own, since rustc compiles the items of another module apart and so to other code.
+// Each program includes this text as its own. As a module it would be compiled apart from the rest, to code of another speed.
 
 const RIM: u32 = 1_000_000_000;
 const SEED: u64 = 1;

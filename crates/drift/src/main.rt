@@ -1,4 +1,5 @@
 // drift: asks windows that drift over the kind `heights`, for measuring, and prints what the answers add up to.
+// `bench/run` measures it beside the same in plain Rust.
 // Nothing is claimed of it beyond that it is safe and ends: the answers are those of the library, and what is printed is compared.
 #![tactic(auto)]
 
@@ -12,6 +13,7 @@ use programs::tally::Tally;
 use sheets::kinds::heights;
 use std::env;
 use std::process::ExitCode;
+use std::rt::Env;
 
 const SEED: u64 = 1;
 
@@ -49,14 +51,14 @@ fn drift<F: Field>(field: &mut F, windows: u16) -> Tally {
 }
 
 // The number of windows, which is the only argument.
-fn read_count(rt: &HostRuntime) -> anyhow::Result<u16> {
+fn read_count(rt: &(impl Env + AllocGlobal)) -> anyhow::Result<u16> {
     let mut args = env::args(rt)?.skip(1);
     let word = args.next();
     ensure!(args.next().is_none(), "there is more than one argument");
     window_count(word)
 }
 
-fn run(rt: &HostRuntime) -> anyhow::Result<()> {
+fn run(rt: &(impl Env + Print + AllocGlobal)) -> anyhow::Result<()> {
     let windows = read_count(rt)?;
     let tally = drift(&mut heights(SEED), windows);
     println!(rt; "{tally}")?;

@@ -1,4 +1,5 @@
 // world_drift: draws windows that drift over a coast, for measuring, and prints what the heights add up to.
+// `bench/run-worlds` measures it beside the same in plain Rust.
 // Nothing is claimed of it beyond that it is safe and ends: the answers are those of the library, and what is printed is compared.
 #![tactic(auto)]
 
@@ -15,6 +16,7 @@ use programs::tally::Tally;
 use rules::road::Road;
 use std::env;
 use std::process::ExitCode;
+use std::rt::Env;
 use std::str::FromStr;
 use worlds::drawing::Drawing;
 use worlds::world::World;
@@ -24,7 +26,7 @@ const SEED: u64 = 1;
 // So windows lie as a buoy drifts: most of what one of them needs is held from the one before.
 const COURSE: Course = Course { east: 3, south: 1 };
 
-#[derive(Clone, Copy, Drop)]
+#[derive(Clone, Copy)]
 enum Coast {
     // The kinds `heights` and `roads`.
     Heights,
@@ -75,7 +77,7 @@ fn drift<F: Field + Drop>(field: F, windows: u16) -> (Tally, u64) {
 }
 
 // The kind of coast and the number of windows, which are the two arguments.
-fn read_arguments(rt: &HostRuntime) -> anyhow::Result<(Coast, u16)> {
+fn read_arguments(rt: &(impl Env + AllocGlobal)) -> anyhow::Result<(Coast, u16)> {
     let mut args = env::args(rt)?.skip(1);
     let kind = args
         .next()
@@ -86,7 +88,7 @@ fn read_arguments(rt: &HostRuntime) -> anyhow::Result<(Coast, u16)> {
     Ok((coast, window_count(count)?))
 }
 
-fn run(rt: &HostRuntime) -> anyhow::Result<()> {
+fn run(rt: &(impl Env + Print + AllocGlobal)) -> anyhow::Result<()> {
     let (coast, windows) = read_arguments(rt)?;
     let (tally, fills) = match coast {
         Coast::Heights => drift(heights(SEED), windows),
