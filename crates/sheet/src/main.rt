@@ -4,6 +4,7 @@
 ghost use Rattle.std.specs.Prelude.{IfOk};
 ghost use Rattle.sheet.specs.Input.{StopsAtLineFeed};
 
+use programs::ending::exit_code;
 use request::LONGEST_LINE;
 use sheets::answer::answer;
 use std::alloc::Global;
@@ -34,11 +35,5 @@ fn run(rt: &HostRuntime) -> anyhow::Result<()> {
 }
 
 fn main(rt: HostRuntime) -> ExitCode {
-    match run(&rt) {
-        Ok(()) => ExitCode::SUCCESS,
-        Err(error) => {
-            let _ = eprintln!(rt; "sheet: {error}");
-            ExitCode::FAILURE
-        }
-    }
+    exit_code(&rt, "sheet", run(&rt))
 }
