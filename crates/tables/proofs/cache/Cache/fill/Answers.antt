@@ -54,7 +54,7 @@ loop-place-preserved g c =
     let at : c.chunk_cell-cell.result ≡ cell_in k p = c.chunk_cell-cell.ensures ∙ ap (cell_in k) whole in
     let put = puts k p c.chunk_cell-cell.result h t t' lt c.chunk_cell-cell.ensures (c.put.ensures.here, c.put.ensures.others) in
     let said : h ≡ mark (m (cell_in k p)) =
-        ap number_for c.ok-height.ensures.value ∙ ap mark (c.ask.ensures.answer ∙ ap (λ (f : Meaning). f c.chunk_cell-cell.result) i.0 ∙ ap m at) in (
+    ap number_for c.ok-height.ensures.value ∙ ap mark (c.ask.ensures.answer ∙ ap (λ (f : Meaning). f c.chunk_cell-cell.result) i.0 ∙ ap m at) in (
       c.ask.ensures.same ∙ i.0,
       filled_more m k p h t t' lt put said i.1,
       (λ j. c.put.ensures.held j ∙ i.2 j),
