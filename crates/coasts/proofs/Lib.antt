@@ -1,4 +1,4 @@
 mod Drawings
-mod Plans
+pub mod Plans
 mod Rows
 mod Texts

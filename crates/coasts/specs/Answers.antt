@@ -2,7 +2,8 @@
 --     row_cells v j       the cells of row j of the window, from west to east
 --     drawn m v js n      the text of the rows js and then the fills, or up to the first row with a blank, and then the refusal
 --     Drawn m v out       out is the text of the drawing
---     Prints bs out       out is what is printed for the input bs
+--     PrintsBy D bs out   out is what is printed for the input bs, where D says what is drawn of a request
+--     Prints bs out       the same, where every kind is drawn
 use Rattle.std.specs.Prelude.{◌≡◌, ℕ, List, [], ◌∷◌, ◌++◌, map, Ok, Err, Result}
 use Rattle.std.specs.List.{range_with_len}
 use Rattle.grid.specs.declared.blank.Blank.{Blank}
@@ -39,18 +40,22 @@ pub record Drawn (m : Meaning) (v : Window) (out : List ℕ) : Type 0 where
   pub counted : Counts fills (Touches v)
   pub is : out ≡ drawn m v (range_with_len 0 (height_of v)) fills
 
--- what is printed of a request where making its window answered w
-abbrev pub PrintsWindow : Request → Result Window WindowRefusal → List ℕ → Type 0
-PrintsWindow q (Ok v) out = Drawn (formula (rules_of q.kind) q.seed) v out
-PrintsWindow q (Err e) out = out ≡ refusal_text (window_refusal e)
-
 abbrev pub MakesFor : Request → Result Window WindowRefusal → Type 0
 MakesFor q w = Makes (asked_corner q) q.width q.height w
 
--- what is printed where reading the line answered r
-abbrev pub PrintsRequest : Result Request RequestRefusal → List ℕ → Type 0
-PrintsRequest (Ok q) out = (w : Result Window WindowRefusal) × MakesFor q w × PrintsWindow q w out
-PrintsRequest (Err e) out = out ≡ refusal_text (request_refusal e)
+module _ (Draws : Request → Window → List ℕ → Type 0) where
+  -- what is printed of a request where making its window answered w
+  abbrev pub PrintsWindow : Request → Result Window WindowRefusal → List ℕ → Type 0
+  PrintsWindow q (Ok v) out = Draws q v out
+  PrintsWindow q (Err e) out = out ≡ refusal_text (window_refusal e)
+
+  -- what is printed where reading the line answered r
+  abbrev pub PrintsRequest : Result Request RequestRefusal → List ℕ → Type 0
+  PrintsRequest (Ok q) out = (w : Result Window WindowRefusal) × MakesFor q w × PrintsWindow q w out
+  PrintsRequest (Err e) out = out ≡ refusal_text (request_refusal e)
+
+  abbrev pub PrintsBy : List ℕ → List ℕ → Type 0
+  PrintsBy bs out = (r : Result Request RequestRefusal) × Reading bs r × PrintsRequest r out
 
 abbrev pub Prints : List ℕ → List ℕ → Type 0
-Prints bs out = (r : Result Request RequestRefusal) × Reading bs r × PrintsRequest r out
+Prints = PrintsBy (λ q v out. Drawn (formula (rules_of q.kind) q.seed) v out)

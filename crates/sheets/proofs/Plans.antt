@@ -1,17 +1,13 @@
 -- From plans to what `sheet` prints of them. Assumes nothing.
-use Rattle.std.proofs.Common.{◌≡◌, ℕ, true, false, List, Some, None, Ok, Err, sym, refl, ap, ◌∙◌, subst}
+use Rattle.std.proofs.Common.{◌≡◌, ℕ, true, false, List, Some, None, Ok, sym, refl, ap, ◌∙◌, subst}
 use Rattle.std.proofs.lemmas.Bool.{false≢true}
 use Rattle.std.specs.Option.{is_some}
 use Rattle.request.specs.declared.Kind.{Kind}
 use Rattle.request.specs.declared.Kind.TheVariants.{Raw, Heights, Sites, Roads}
 use Rattle.coasts.specs.declared.plan.Plan.{Plan}
-use Rattle.coasts.specs.declared.refusal.PlanRefusal.{PlanRefusal}
-use Rattle.coasts.specs.declared.refusal.PlanRefusal.TheVariants.{Request as ByRequest, Window as ByWindow}
 use Rattle.coasts.specs.Answers.{Drawn}
 use Rattle.coasts.specs.Kinds.{formula, rules_of as all_rules_of}
 use Rattle.coasts.specs.Plans.{Planning}
-use Rattle.coasts.specs.Refusals.{plan_refusal}
-use Rattle.coasts.specs.Texts.{refusal_text}
 use Rattle.sheets.specs.declared.error.SheetError.TheVariants.{NotBuilt}
 use Rattle.sheets.specs.Answers.{Fails, Prints}
 use Rattle.sheets.specs.Kinds.{rules_of}
@@ -34,7 +30,3 @@ prints_built bs out p (q, read, made, kind, seed) b drawn =
 
 pub fails_unbuilt : (bs : List ℕ) (p : Plan) → Planning bs (Ok p) → false ≡ is_some (rules_of p.kind) → Fails bs (NotBuilt p.kind)
 fails_unbuilt bs p (q, read, made, kind, _) b = (q, p.window, read, made, kind, unbuilt p.kind b)
-
-pub prints_refusal : (bs out : List ℕ) (e : PlanRefusal) → Planning bs (Err e) → out ≡ refusal_text (plan_refusal e) → Prints bs out
-prints_refusal bs out (ByRequest e) read is = (Err e, read, is)
-prints_refusal bs out (ByWindow e) (q, read, made) is = (Ok q, read, (Err e, made, is))

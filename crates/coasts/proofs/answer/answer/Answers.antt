@@ -10,5 +10,5 @@ returns-in-Ok c = IfOk-weaker c.draw.result _ _ (λ t. prints_plan c.args.input.
 pub returns-in-Err : goal.returns-in-Err
 returns-in-Err c =
     IfOk-weaker c.refusal_line.result _ _
-    (λ t is. prints_refusal c.args.input.now (string_bytes t) c.in-Err.refusal c.in-Err.ensures (is ∙ ap refusal_text c.number.ensures))
+    (λ t is. prints_refusal _ c.args.input.now (string_bytes t) c.in-Err.refusal c.in-Err.ensures (is ∙ ap refusal_text c.number.ensures))
     c.refusal_line.ensures

@@ -1,6 +1,7 @@
 use Rattle.std.proofs.Common.{string_bytes, ap, ◌∙◌}
 use Rattle.coasts.specs.Texts.{refusal_text}
-use Rattle.sheets.proofs.Plans.{fails_unbuilt, prints_built, prints_refusal}
+use Rattle.coasts.proofs.Plans.{prints_refusal}
+use Rattle.sheets.proofs.Plans.{fails_unbuilt, prints_built}
 use Rattle.sheets.proofs.answer.answer.Goals as goal
 
 pub returns-in_ok-draw-in-Ok : goal.returns-in_ok-draw-in-Ok
@@ -12,5 +13,5 @@ returns-then-not-is_built c = fails_unbuilt c.args.input.now c.in-Ok.plan c.in-O
 
 pub returns-in_ok-refusal_line-in-Err : goal.returns-in_ok-refusal_line-in-Err
 returns-in_ok-refusal_line-in-Err c =
-    prints_refusal c.args.input.now (string_bytes c.in_ok-refusal_line-in-Err.field-0) c.in-Err.refusal c.in-Err.ensures
+    prints_refusal _ c.args.input.now (string_bytes c.in_ok-refusal_line-in-Err.field-0) c.in-Err.refusal c.in-Err.ensures
     (c.in_ok-refusal_line-in-Err.ensures ∙ ap refusal_text c.number.ensures)
