@@ -1,9 +1,8 @@
 -- A row as it is written, cell by cell. Assumes nothing.
-use Rattle.std.proofs.Common.{◌≡◌, ◌≢◌, ℕ, ◌+◌, ◌<◌, ◌≤◌, true, List, [], ◌∷◌, ◌++◌, length, get_or, set, IsErrAnd, Some, None, Ok, Err, Result, sym, refl, ap, ◌∙◌, subst, append-nil, below_more, arith}
+use Rattle.std.proofs.Common.{◌≡◌, ◌≢◌, ℕ, ◌+◌, ◌<◌, ◌≤◌, List, [], ◌∷◌, ◌++◌, length, get_or, set, IsErrAnd, Some, Ok, Err, Result, sym, refl, ap, ◌∙◌, subst, append-nil, below_more, arith}
 use Rattle.std.proofs.lemmas.List.FromFn.{map-range_with_len_more}
 use Rattle.std.proofs.lemmas.List.{get_or-set_other, get_or-set_same, length-set}
 use Rattle.std.proofs.lemmas.Int.{ints}
-use Rattle.std.proofs.lemmas.Bool.{false≢true}
 use Rattle.std.proofs.lemmas.Bool.Decides.{nat_tests}
 use Rattle.grid.specs.declared.cell.Cell.{Cell}
 use Rattle.grid.specs.declared.chunk.Chunk.{Chunk}
@@ -23,15 +22,9 @@ use Rattle.worlds.specs.Refusals.{looked}
 use Rattle.worlds.specs.Rows.{Answers, Past, Placed, RowAnswer, column_of, row_told, told_by}
 use Rattle.worlds.specs.Worlds.{held_by, world_meaning}
 use Rattle.worlds.proofs.Goings.{goes_more}
-use Rattle.worlds.proofs.Stretches.{stretch_idle, stretch_none}
+use Rattle.worlds.proofs.Stretches.{stretch_idle}
 
 -- ---- cells and answers
-
-some_one : {X : Type 0} {x y : X} → Some x ≡ Some y → x ≡ y
-some_one e = cc
-
-none_some : {X : Type 0} {x : X} → None ≡ Some x → ⊥
-none_some e = false≢true cc
 
 pub column_is : (v : Window) (i j : ℕ) → column_of v (cell_of v i j) ≡ i
 column_is v i j = omega (arith, ints)
@@ -57,15 +50,6 @@ err_is (Err y) x h = ap Err h
 
 module _ {F : Type 0} {g : Ghosts F} where
   -- ---- events that ask nothing
-
-  none_on : (d : Drawing F g) → GoesOn d [] d
-  none_on d = record {
-    window = refl;
-    same = refl;
-    new = 0;
-    table = stretch_none (window_of d) (λ k. held_by (world_of d) k ≡ true) (held_by (world_of d)) (λ k. (λ h. h, λ h. h));
-    fills = λ h. omega arith;
-  }
 
   -- the same drawing, at another row
   abbrev at_row : ℕ → Drawing F g → Drawing F g
