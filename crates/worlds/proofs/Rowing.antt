@@ -1,5 +1,5 @@
 -- A row as it is written, cell by cell. Assumes nothing.
-use Rattle.std.proofs.Common.{◌≡◌, ◌≢◌, ℕ, ◌+◌, ◌<◌, ◌≤◌, List, [], ◌∷◌, ◌++◌, length, get_or, set, IsErrAnd, Some, Ok, Err, Result, sym, refl, ap, ◌∙◌, subst, append-nil, below_more, arith}
+use Rattle.std.proofs.Common.{◌≡◌, ℕ, ◌+◌, ◌<◌, ◌≤◌, List, [], ◌∷◌, ◌++◌, length, get_or, set, IsErrAnd, Some, Ok, Err, Result, sym, refl, ap, ◌∙◌, subst, append-nil, arith}
 use Rattle.std.proofs.lemmas.List.FromFn.{map-range_with_len_more}
 use Rattle.std.proofs.lemmas.List.{get_or-set_other, get_or-set_same, length-set}
 use Rattle.std.proofs.lemmas.Int.{ints}
@@ -33,15 +33,13 @@ pub told_more : (m : Meaning) (v : Window) (j i : ℕ) → row_told m v j (i + 1
 told_more m v j i = map-range_with_len_more (λ k. Asked (cell_of v k j) (m (cell_of v k j))) 0 i i (omega arith)
 
 cell_found : (v : Window) (i j : ℕ) {at : Cell} → Some at ≡ cell_if_any v i j → (i < width_of v) × (j < height_of v) × (at ≡ cell_of v i j)
-cell_found v i j e = (grind (arith, nat_tests), grind (arith, nat_tests), grind (arith, nat_tests))
+cell_found v i j e = grind (arith, nat_tests)
 
 looked_ok : (c : Cell) (a : Answer) (h : ℕ) → Ok h ≡ looked c a → a ≡ Ok h
-looked_ok c (Ok k) h e = cc
-looked_ok c (Err b) h e = cc
+looked_ok c a h e = grind arith
 
 looked_err : (c : Cell) (a : Answer) (f : BlankFault) → Err f ≡ looked c a → (f.cell ≡ c) × (a ≡ Err f.blank)
-looked_err c (Ok k) f e = (cc, cc)
-looked_err c (Err b) f e = (cc, cc)
+looked_err c a f e = grind arith
 
 -- what came back through a `?`
 pub err_is : {T E : Type 0} (r : Result T E) (x : E) → IsErrAnd r (λ y. y ≡ x) → r ≡ Err x
@@ -110,20 +108,18 @@ module _ {F : Type 0} {g : Ghosts F} where
         within = omega (arith, there.0);
         next = kept ∙ way.next;
         long = length-set p i h ∙ way.long;
-        past = λ k l. get_or-set_other p i k h 0 (omega arith) ∙ way.past k (omega arith);
-        heights = below_more (λ k. m (cell_of (window_of d) k (next_of d)) ≡ Ok (get_or (set p i h) k 0)) i
-            (λ k l. let other : k ≢ i = omega arith in rw get_or-set_other (way.heights k l))
-            (rw (← there.2, get_or-set_same) (looked_ok at (m at) h (meant (Ok h) said)));
+        past = λ k l. grind (arith, way.past k, get_or-set_other p i k h 0);
+        heights = λ k l. grind (arith, way.heights k, looked_ok at (m at) h (meant (Ok h) said), there.2, get_or-set_other p i k h 0, get_or-set_same p i h 0);
         goes = goes;
       }
 
       -- it is blank, and so the row is refused
-      pub way_blank : (x : BlankFault) (r : RowAnswer) → r ≡ Err (Blank x) → Err x ≡ looked at (world_meaning (world_of e) at) → width_of (window_of d) ≤ length o →
+      pub way_blank : (x : BlankFault) (r : RowAnswer) → IsErrAnd r (λ y. y ≡ Blank x) → Err x ≡ looked at (world_meaning (world_of e) at) → width_of (window_of d) ≤ length o →
           Placed (window_of d) (next_of d) (length o) r × Answers m (window_of d) (next_of d) r p × Past (window_of d) r o p × ((a : Meaning) → GoesOn d (told_by a (window_of d) (next_of d) r) f)
       way_blank x r back said room =
           let blank = looked_err at (m at) x (meant (Err x) said) in
           let column : column_of (window_of d) x.cell ≡ i = ap (column_of (window_of d)) (blank.0 ∙ there.2) ∙ column_is (window_of d) i (next_of d) in
-          rw back (
+          rw (err_is r (Blank x) back) (
             (there.1, room, (i, there.0, blank.0 ∙ there.2)),
             ((λ k l. way.heights k (omega arith)), rw blank.0 blank.1),
             (way.long, λ k l. way.past k (omega arith)),
