@@ -1,5 +1,5 @@
 -- A drawing as it goes on. Assumes nothing.
-use Rattle.std.proofs.Common.{◌≡◌, ℕ, ◌+◌, ◌≤◌, min, Bool, true, not, ◌&&◌, [], ◌∷◌, ◌++◌, sym, ◌∙◌, subst, append_assoc, arith}
+use Rattle.std.proofs.Common.{◌≡◌, ℕ, ◌+◌, min, Bool, true, not, ◌&&◌, [], ◌∷◌, ◌++◌, ◌∙◌, rules, arith}
 use mir.Val.{bool_byte}
 use Rattle.grid.specs.declared.cell.Cell.{Cell}
 use Rattle.grid.specs.declared.chunk.Chunk.{Chunk}
@@ -11,10 +11,9 @@ use Rattle.tables.specs.Tables.{touch}
 use Rattle.worlds.specs.declared.drawing.Drawing.{Drawing}
 use Rattle.worlds.specs.declared.event.Event.TheVariants.{Asked, Begun, Finished}
 use Rattle.worlds.specs.Drawings.{GoesOn, Underway, fills_of, most, window_of, world_of}
-use Rattle.worlds.specs.Journals.{Held, Journal, OfWindow, Stretch}
+use Rattle.worlds.specs.Journals.{Held, Journal, OfWindow, Spares}
 use Rattle.worlds.specs.Worlds.{Fits, held_by, world_meaning}
-use Rattle.worlds.proofs.Fitting.{fits_idle}
-use Rattle.worlds.proofs.Histories.{held_both, held_idle}
+use Rattle.worlds.proofs.Histories.{all_both, held_both, held_idle, held_more}
 use Rattle.worlds.proofs.Stretches.{stretch_asked, stretch_few, stretch_more}
 
 module _ {F : Type 0} {g : Ghosts F} where
@@ -23,9 +22,7 @@ module _ {F : Type 0} {g : Ghosts F} where
     window = h.window ∙ f.window;
     same = h.same ∙ f.same;
     new = f.new + h.new;
-    table =
-        stretch_more (window_of c) (λ k. held_by (world_of c) k ≡ true) i j (held_by (world_of d)) (held_by (world_of e)) f.new h.new f.table
-        (subst (λ (v : Window). Stretch v (λ k. held_by (world_of d) k ≡ true) j (held_by (world_of e)) h.new) f.window h.table);
+    table = stretch_more (window_of c) (λ k. held_by (world_of c) k ≡ true) i j _ _ f.new h.new f.table (rw f.window at h.table);
     fills = λ room.
         let d-is : fills_of d ≡ fills_of c + f.new = f.fills (omega arith) in
         let e-is : fills_of e ≡ fills_of d + h.new = h.fills (omega arith) in
@@ -36,17 +33,10 @@ module _ {F : Type 0} {g : Ghosts F} where
   pub underway_more : (m : Meaning) (d e : Drawing F g) (before during j : Journal) →
       GoesOn d j e → Underway m d before during → Underway m e before (during ++ j)
   underway_more m d e before during j f u =
-      let H = Held before in
-      let K = held_by (world_of e) in
-      let all = during ++ j in
-      let n = fills_of d + f.new in
-      let whole : Stretch (window_of d) H all K n = stretch_more (window_of d) H during j (held_by (world_of d)) K (fills_of d) f.new u.table f.table in
-      let few : n ≤ 64 = stretch_few (window_of d) H all K n whole in
-      let exact : fills_of e ≡ n = f.fills (omega arith) in
-      record {
-        means = f.same ∙ u.means;
-        table = subst (λ (v : Window). Stretch v H all K (fills_of e)) (sym f.window) (subst (λ (a : ℕ). Stretch (window_of d) H all K a) (sym exact) whole);
-      }
+      let whole = stretch_more (window_of d) (Held before) during j _ _ (fills_of d) f.new u.table f.table in
+      let few = stretch_few (window_of d) (Held before) (during ++ j) _ (fills_of d + f.new) whole in
+      let exact : fills_of e ≡ fills_of d + f.new = f.fills (omega arith) in
+      record { means = f.same ∙ u.means; table = rw (f.window, exact) whole }
 
   -- one asked cell, of which `filled` says whether it took a fill
   pub goes_asked : (c : Cell) (a : Answer) (d e : Drawing F g) (filled : Bool) (n : ℕ) → window_of e ≡ window_of d → OfWindow (window_of d) c →
@@ -65,12 +55,8 @@ module _ {F : Type 0} {g : Ghosts F} where
   pub fits_finished : (m : Meaning) (d : Drawing F g) (before during : Journal) (v : Window) (n : ℕ) → Underway m d before during →
       Fits m (world_of d) (before ++ Begun v ∷ (during ++ Finished n ∷ []))
   fits_finished m d before during v n u =
-      let begun : Fits m (world_of d) (before ++ Begun v ∷ during) = record {
+      let told = during ++ Finished n ∷ [] in
+      record {
         means = u.means;
-        held = λ k.
-            let idle = held_idle k before during (Begun v) (λ z. z) tt in
-            let both = held_both k before during in
-            (λ h. idle.1 (both.1 ((u.table.held k).0 h)), λ h. (u.table.held k).1 (both.0 (idle.0 h)));
-      } in
-      subst (Fits m (world_of d)) (append_assoc before (Begun v ∷ during) (Finished n ∷ []))
-      (fits_idle m (world_of d) (before ++ Begun v ∷ during) (Finished n) (λ k z. z) (λ k. tt) begun)
+        held = λ k. search (rules, u.table.held k, held_idle k before told (Begun v), held_both k before told, held_more k during (Finished n), all_both (Spares k) during (Finished n ∷ []));
+      }

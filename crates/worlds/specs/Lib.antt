@@ -1,4 +1,3 @@
-pub mod Calls
 pub mod Drawings
 pub mod Journals
 pub mod Laws

@@ -14,18 +14,12 @@ use Rattle.grid.specs.declared.window.Window.{Window}
 use Rattle.grid.specs.Meanings.{Meaning}
 use Rattle.grid.specs.Windows.{cell_of, corner_of, height_of, width_of}
 use Rattle.worlds.specs.declared.event.Event.TheVariants.{Asked, Wrote, Refused}
-use Rattle.worlds.specs.declared.refusal.BlankFault.{BlankFault}
 use Rattle.worlds.specs.declared.refusal.RowRefusal.{RowRefusal}
 use Rattle.worlds.specs.declared.refusal.RowRefusal.TheVariants.{Full, Short, Blank}
 use Rattle.worlds.specs.Journals.{Journal}
 
 abbrev pub RowAnswer : Type 0
 RowAnswer = Result (Unit {0}) RowRefusal
-
--- where only a blank can be refused
-abbrev pub as_row : Result (Unit {0}) BlankFault → RowAnswer
-as_row (Ok u) = Ok u
-as_row (Err f) = Err (Blank f)
 
 abbrev pub column_of : Window → Cell → ℕ
 column_of v c = unsigned_abs (c.x -ℤ (corner_of v).x)

@@ -1,5 +1,6 @@
+use Rattle.std.proofs.Common.{rules}
 use Rattle.worlds.proofs.Fitting.{fits_clear}
 use Rattle.worlds.proofs.world.World.clear.Goals as goal
 
 pub returns-clause-history : goal.returns-clause-history
-returns-clause-history g c m j = fits_clear m _ _ j c.clear.ensures.field c.clear.ensures.empty
+returns-clause-history g c m j = search (rules, fits_clear)
