@@ -1,16 +1,15 @@
 -- Worlds and drawings that stand as their journals say, call by call. Assumes nothing.
 use Rattle.std.proofs.Common.{◌≡◌, ℕ, true, ◌↔◌, List, [], ◌∷◌, ◌++◌, sym, refl, ap, ◌∙◌, subst, append_assoc, length, min, get_or, ◌⊎◌, inl, inr, add-zero}
-use Rattle.std.proofs.ByRecursion.{All-weaker}
 use Rattle.grid.specs.declared.cell.Cell.{Cell}
 use Rattle.grid.specs.declared.chunk.Chunk.{Chunk}
 use Rattle.grid.specs.declared.field.Field.{Ghosts}
 use Rattle.grid.specs.declared.window.Window.{Window}
-use Rattle.grid.specs.Meanings.{Meaning}
+use Rattle.grid.specs.Meanings.{Answer, Meaning}
 use Rattle.tables.specs.declared.table.Table.{Table}
 use Rattle.tables.specs.Tables.{Right, holds}
 use Rattle.worlds.specs.declared.drawing.Drawing.{Drawing}
 use Rattle.worlds.specs.declared.event.Event.{Event}
-use Rattle.worlds.specs.declared.event.Event.TheVariants.{Begun, Finished, Passed}
+use Rattle.worlds.specs.declared.event.Event.TheVariants.{Asked, Begun, Cleared, Finished, Passed}
 use Rattle.worlds.specs.declared.world.World.{World}
 use Rattle.worlds.specs.Drawings.{Underway, fills_of, next_of, window_of, world_of}
 use Rattle.worlds.specs.Journals.{Held, InDrawing, Journal, Touched}
@@ -24,9 +23,9 @@ use Rattle.tracks.specs.declared.call.Call.{Call}
 use Rattle.tracks.specs.declared.call.Call.TheVariants.{Look, Clear, Begin, Row, Finish}
 use Rattle.tracks.specs.declared.run.Phase.{Phase}
 use Rattle.tracks.specs.declared.run.Phase.TheVariants.{Alone, Open}
-use Rattle.tracks.specs.Promises.{Between, Fair, Faithful, Holds, Sound, Stands, stage_of, table_in, Turns}
+use Rattle.tracks.specs.Promises.{Fair, Faithful, Holds, Sound, Stands, stage_of, table_in, Turns}
 use Rattle.tracks.specs.Runs.{Does, Runs, alone, drawing}
-use Rattle.tracks.proofs.Fairness.{Ends, drawing_between, fair_between, fair_finish, fair_none, fair_other}
+use Rattle.tracks.proofs.Fairness.{drawing_between, fair_between, fair_finish, fair_other}
 use Rattle.tracks.proofs.Tellings.{more_room, runs_more}
 use Rattle.tracks.proofs.Tells.{shown, shown_told}
 
@@ -45,12 +44,19 @@ module _ {F : Type 0} {g : Ghosts F} (m : Meaning) where
   -- ---- a world by itself
 
   -- it stays so, and tells one event
-  pub turns_alone : (k : Call) (i : Journal) (e : Event) {w u : World F g} → (Ends e → ⊥) → Does m alone k (e ∷ []) alone → (Fits m w i → Fits m u (i ++ e ∷ [])) →
+  turns_alone : (k : Call) (i : Journal) (e : Event) {w u : World F g} → ((n : ℕ) → e ≡ Finished n → ⊥) → Does m alone k (e ∷ []) alone → (Fits m w i → Fits m u (i ++ e ∷ [])) →
       Turns m (Alone w) k i (Alone u) (i ++ e ∷ [])
   turns_alone k i e goes_on does fits s = (e ∷ [], refl, does, (fits s.0, fair_other i e s.1 goes_on))
 
+  pub turns_look : (at : Cell) (i : Journal) (a : Answer) {w u : World F g} → (Fits m w i → a ≡ m at) → (Fits m w i → Fits m u (i ++ Asked at (m at) ∷ [])) →
+      Turns m (Alone w) (Look at) i (Alone u) (i ++ Asked at a ∷ [])
+  turns_look at i a told fits s = rw (told s.0) (turns_alone (Look at) i (Asked at (m at)) (λ n is. cc) (refl, refl) fits s)
+
+  pub turns_clear : (i : Journal) {w u : World F g} → (Fits m w i → Fits m u (i ++ Cleared ∷ [])) → Turns m (Alone w) Clear i (Alone u) (i ++ Cleared ∷ [])
+  turns_clear i = turns_alone Clear i Cleared (λ n is. cc) (refl, refl)
+
   pub turns_passed_alone : (k : Call) (i : Journal) (w : World F g) → ((n : ℕ) × (k ≡ Row n)) ⊎ (k ≡ Finish) → Turns m (Alone w) k i (Alone w) (i ++ Passed ∷ [])
-  turns_passed_alone k i w is = turns_alone k i Passed (λ ends. ends) (passed_alone m k is) (fits_idle m w i Passed (λ c z. z) (λ c. tt))
+  turns_passed_alone k i w is = turns_alone k i Passed (λ n eq. cc) (passed_alone m k is) (fits_idle m w i Passed (λ c z. z) (λ c. tt))
 
   pub turns_begin : (v : Window) (i : Journal) {w : World F g} {d : Drawing F g} → (window_of d ≡ v) × ((next_of d ≡ 0) × (fills_of d ≡ 0)) → (Fits m w i → Underway m d i []) →
       Turns m (Alone w) (Begin v) i (Open d) (i ++ Begun v ∷ [])
@@ -58,7 +64,7 @@ module _ {F : Type 0} {g : Ghosts F} (m : Meaning) where
     Begun v ∷ [],
     refl,
     (refl, λ t. drawing (start.0 t) (start.1.0 t)),
-    ((i, [], ap (λ (x : Window). i ++ Begun x ∷ []) (sym start.0), underway s.0), fair_other i (Begun v) s.1 (λ ends. ends)),
+    ((i, [], ap (λ (x : Window). i ++ Begun x ∷ []) (sym start.0), underway s.0), fair_other i (Begun v) s.1 (λ n is. cc)),
   )
 
   -- ---- a drawing
@@ -68,7 +74,7 @@ module _ {F : Type 0} {g : Ghosts F} (m : Meaning) where
       Sound m (Open e) (j ++ i)
   sound_drawing d e j i (before, during, is, _) same u fair = (
     (before, during ++ i, ap (λ (x : Journal). x ++ i) is ∙ append_assoc before (Begun (window_of d) ∷ during) i ∙ ap (λ (x : Window). before ++ Begun x ∷ (during ++ i)) (sym same), u),
-    fair_between j i fair (All-weaker (InDrawing (window_of e)) Between (drawing_between (window_of e)) i (all_right (InDrawing (window_of e)) during i u.table.within)),
+    fair_between j i fair (drawing_between (window_of e) i (all_right (InDrawing (window_of e)) during i u.table.within)),
   )
 
   -- a row into n places, or 57 that serve for more
@@ -104,7 +110,7 @@ module _ {F : Type 0} {g : Ghosts F} (m : Meaning) where
   turns_finish i j {d} {w} {n} finishes told ((before, during, is, u), fair) =
       let v = window_of d in
       let held = λ (k : Chunk) (t : Touched during k). (held_idle k before during (Begun v) (λ z. z) tt).1 ((held_both k before during).1 ((u.table.held k).0 (rw finishes.world at (finishes.holds m before during u k t)))) in
-      let between = All-weaker (InDrawing v) Between (drawing_between v) during u.table.within in (
+      let between = drawing_between v during u.table.within in (
         Finished n ∷ [],
         told,
         (n, refl, refl),
@@ -139,9 +145,6 @@ module _ {F : Type 0} {g : Ghosts F} (m : Meaning) where
             λ h. (held_idle k before during (Begun (window_of d)) (λ z. z) tt).1 ((held_both k before during).1 ((u.table.held k).0 h.0)),
             λ h. (address t k right).0 ((u.table.held k).1 ((held_both k before during).0 ((held_idle k before during (Begun (window_of d)) (λ z. z) tt).0 h))),
           )
-
-  pub faithful_none : (w : World F g) → Fits m w [] → Faithful m [] (Alone w) []
-  faithful_none w fits = faithful [] (Alone w) [] (refl, refl) (fits, fair_none)
 
   pub faithful_more : (cs : List Call) (k : Call) {p q : Phase F g} {i j : Journal} → Faithful m cs p i → Turns m p k i q j → Faithful m (cs ++ k ∷ []) q j
   faithful_more cs k {p} {q} {i} {j} f turns =

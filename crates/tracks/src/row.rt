@@ -3,10 +3,9 @@ ghost use Rattle.std.specs.Prelude.{◌≡◌};
 ghost use Rattle.grid.specs.Meanings.{Meaning};
 ghost use Rattle.tracks.specs.Promises.{Turns};
 ghost use Rattle.tracks.specs.Room.{HasRoom, UsesRoom};
-ghost use Rattle.tracks.specs.declared.call.Call.TheVariants.{Row as RowOf};
-ghost use Rattle.tracks.specs.declared.run.Phase.TheVariants.{Open};
 ghost use Rattle.worlds.specs.Rows.{column_of};
 
+use crate::call::Call;
 use crate::run::Phase;
 use crate::tell::Row;
 use grid::cell::Cell;
@@ -27,7 +26,7 @@ impl<F: Field> Phase<F> {
     // The next row, into a row of its own with so many places. No window is wider than 57, so that many serve for more.
     pub(crate) fn draw(mut drawing: Drawing<F>, places: usize, journal: &mut Vec<Event>) -> Phase<F>
         requires { HasRoom journal.old }
-        ensures law { (m : Meaning) → Turns m (Open drawing) (RowOf places) journal.old.items result journal.new.items }
+        ensures law { (m : Meaning) → Turns m (Phase.Open drawing) (Call.Row places) journal.old.items result journal.new.items }
         ensures room { UsesRoom journal.old journal.new }
     {
         let window = drawing.window();

@@ -1,39 +1,26 @@
 // One call of a track.
 ghost use Rattle.std.specs.Prelude.{◌≡◌, [], ◌∷◌, ◌++◌};
-ghost use Rattle.grid.specs.Meanings.{Answer, Meaning};
+ghost use Rattle.grid.specs.Meanings.{Meaning};
 ghost use Rattle.worlds.specs.Journals.{Journal};
-ghost use Rattle.worlds.specs.Refusals.{looked};
 ghost use Rattle.tracks.specs.Promises.{Turns};
 ghost use Rattle.tracks.specs.Room.{HasRoom, UsesRoom};
-ghost use Rattle.tracks.specs.declared.run.Phase.TheVariants.{Alone, Open};
-ghost use Rattle.worlds.specs.declared.event.Event.TheVariants.{Asked};
 
 use crate::call::Call;
 use crate::run::Phase;
-use grid::blank::Blank;
-use grid::cell::Cell;
 use grid::field::Field;
 use worlds::drawing::Drawing;
 use worlds::event::Event;
-use worlds::refusal::BlankFault;
 use worlds::world::World;
-
-// That a look at this cell was answered so.
-fn looked_at(at: Cell, answer: Result<u16, BlankFault>) -> Event
-    ensures { (a : Answer) → answer ≡ looked at a → result ≡ Asked at a }
-{
-    Event::Asked(at, answer.map_err(|fault| fault.blank))
-}
 
 impl<F: Field> Phase<F> {
     // A call on a world by itself, and what it tells.
     fn call_world(mut world: World<F>, call: Call) -> (Phase<F>, Event)
-        ensures { (m : Meaning) (j : Journal) → Turns m (Alone world) call j result.0 (j ++ result.1 ∷ []) }
+        ensures { (m : Meaning) (j : Journal) → Turns m (Phase.Alone world) call j result.0 (j ++ result.1 ∷ []) }
     {
         match call {
             Call::Look(at) => {
-                let answer = world.look(at);
-                (Phase::Alone(world), looked_at(at, answer))
+                let answer = world.look(at).map_err(|fault| fault.blank);
+                (Phase::Alone(world), Event::Asked(at, answer))
             }
             Call::Clear => {
                 world.clear();
@@ -47,7 +34,7 @@ impl<F: Field> Phase<F> {
     // A call while a drawing is open, and what it tells. No program can make those on the world itself: they are passed over.
     fn call_drawing(drawing: Drawing<F>, call: Call, journal: &mut Vec<Event>) -> Phase<F>
         requires { HasRoom journal.old }
-        ensures law { (m : Meaning) → Turns m (Open drawing) call journal.old.items result journal.new.items }
+        ensures law { (m : Meaning) → Turns m (Phase.Open drawing) call journal.old.items result journal.new.items }
         ensures room { UsesRoom journal.old journal.new }
     {
         match call {
