@@ -1,72 +1,79 @@
--- What the events of a row tell, by how many of its cells they tell. Assumes nothing.
-use Rattle.std.proofs.Common.{◌≡◌, ℕ, ◌+◌, ◌<◌, ◌≤◌, List, [], ◌∷◌, ◌++◌, length, get_or, take, Ok, Err, sym, ap, ◌∙◌, subst, append_assoc, append-nil, arith}
-use Rattle.std.proofs.lemmas.List.{get_or-take, length-take, length-take-le}
-use Rattle.grid.specs.declared.cell.Cell.{Cell}
+-- What a row tells, by its heights and by the meaning. Assumes nothing.
+use Rattle.std.proofs.Common.{◌≡◌, ℕ, zero, suc, ◌+◌, ◌<◌, ◌≤◌, List, [], ◌∷◌, ◌++◌, Bor, length, map, get_or, take, Ok, Err, refl, ap, sym, ◌∙◌, append-nil, ◌⊎◌, inl, inr, arith}
+use Rattle.std.specs.List.{range_with_len, zip}
+use Rattle.std.proofs.lemmas.List.{get_or-take, length-take-le}
 use Rattle.grid.specs.declared.window.Window.{Window}
-use Rattle.grid.specs.Meanings.{Answer, Meaning}
+use Rattle.grid.specs.Meanings.{Meaning}
 use Rattle.grid.specs.Windows.{cell_of, width_of}
 use Rattle.worlds.specs.declared.event.Event.{Event}
-use Rattle.worlds.specs.declared.event.Event.TheVariants.{Asked, Wrote}
+use Rattle.worlds.specs.declared.event.Event.TheVariants.{Asked, Refused, Wrote}
 use Rattle.worlds.specs.declared.refusal.BlankFault.{BlankFault}
-use Rattle.worlds.specs.declared.refusal.RowRefusal.TheVariants.{Blank}
+use Rattle.worlds.specs.declared.refusal.RowRefusal.{RowRefusal}
+use Rattle.worlds.specs.declared.refusal.RowRefusal.TheVariants.{Blank, Full, Short}
 use Rattle.worlds.specs.Journals.{Journal}
 use Rattle.worlds.specs.Rows.{Answers, Placed, RowAnswer, column_of, row_told, told_by}
 use Rattle.worlds.proofs.Rowing.{column_is, told_more}
+use Rattle.tracks.specs.Runs.{heights_told}
 
--- one more event after those that the first i cells tell
-one_more : (m : Meaning) (v : Window) (j i : ℕ) (at : Cell) (a : Answer) (past from to : Journal) → at ≡ cell_of v i j → m (cell_of v i j) ≡ a → from ≡ past ++ row_told m v j i → to ≡ from ++ Asked at a ∷ [] → to ≡ past ++ row_told m v j (i + 1)
-one_more m v j i at a past from to here is so then =
-    let event : Asked at a ≡ Asked (cell_of v i j) (m (cell_of v i j)) = ap (λ (c : Cell). Asked c a) here ∙ ap (Asked (cell_of v i j)) (sym is) in
-    then ∙ ap (λ (t : Journal). t ++ Asked at a ∷ []) so ∙ append_assoc past (row_told m v j i) (Asked at a ∷ [])
-    ∙ ap (λ (t : Journal). past ++ t) (ap (λ (e : Event). row_told m v j i ++ e ∷ []) event ∙ sym (told_more m v j i))
+-- what a cell tells of its column and its height
+abbrev pub asked_of : Window → ℕ → ℕ × ℕ → Event
+asked_of v j p = Asked (cell_of v p.0 j) (Ok p.1)
 
-module _ (v : Window) (j : ℕ) (hs : List ℕ) (past : Journal) where
-  -- what is past, and then what the first i cells tell where hs are the heights of the row
-  abbrev pub Tells : ℕ → Journal → Type 0
-  Tells i now = (m : Meaning) → ((k : ℕ) → k < length hs → m (cell_of v k j) ≡ Ok (get_or hs k 0)) → now ≡ past ++ row_told m v j i
+abbrev pub column_height : ℕ × Bor ℕ → ℕ × ℕ
+column_height p = (p.0, p.1.now)
 
-  pub tells_more : (i h : ℕ) (at : Cell) (from to : Journal) → i < length hs → h ≡ get_or hs i 0 → at ≡ cell_of v i j → Tells i from → to ≡ from ++ Asked at (Ok h) ∷ [] → Tells (i + 1) to
-  tells_more i h at from to l is here so then m heights = one_more m v j i at (Ok h) past from to here (heights i l ∙ ap Ok (sym is)) (so m heights) then
+-- what a row tells by its heights
+abbrev pub shown : Window → ℕ → List ℕ → RowAnswer → Journal
+shown v j p (Ok u) = heights_told v j (take (width_of v) p) ++ Wrote ∷ []
+shown v j p (Err (Blank f)) = heights_told v j (take (column_of v f.cell) p) ++ Asked f.cell (Err f.blank) ∷ []
+shown v j p (Err Full) = Refused Full ∷ []
+shown v j p (Err Short) = Refused Short ∷ []
 
--- ---- the heights were the first of the caller's row
+module _ (m : Meaning) (v : Window) (j : ℕ) where
+  -- from the column a on
+  from_column : (a w : ℕ) (hs : List ℕ) → length hs ≤ w → ((i k : ℕ) → k ≡ a + i → i < length hs → m (cell_of v k j) ≡ Ok (get_or hs i 0)) →
+      map (asked_of v j) (zip (range_with_len a w) hs) ≡ map (λ i. Asked (cell_of v i j) (m (cell_of v i j))) (range_with_len a (length hs))
+  from_column a zero [] few means = refl
+  from_column a (suc w) [] few means = refl
+  from_column a zero (h ∷ hs) few means = absurd (omega arith)
+  from_column a (suc w) (h ∷ hs) few means =
+      let first = means 0 a (omega arith) (omega arith) in
+      let rest = from_column (a + 1) w hs (omega arith) (λ i k is l. means (suc i) k (omega arith) (omega arith)) in
+      cc
 
-pub front_few : (n : ℕ) (out : List ℕ) → length (take n out) ≤ n
-front_few n out = omega (arith, length-take n out)
+  front_told : (n : ℕ) (p : List ℕ) → n ≤ width_of v → n ≤ length p → ((i : ℕ) → i < n → m (cell_of v i j) ≡ Ok (get_or p i 0)) → heights_told v j (take n p) ≡ row_told m v j n
+  front_told n p wide room heights =
+      let long = length-take-le n p room in
+      from_column 0 (width_of v) (take n p) (omega arith)
+      (λ i k is l.
+      let early : k < n = omega arith in
+      let same : k ≡ i = omega arith in
+      heights k early ∙ ap Ok (ap (λ x. get_or p x 0) same ∙ sym (get_or-take n p i 0 (omega arith))))
+      ∙ ap (row_told m v j) long
 
-module _ (v : Window) (j : ℕ) (out : List ℕ) (past from : Journal) where
-  abbrev pub Front : ℕ → Type 0
-  Front n = Tells v j (take n out) past (length (take n out)) from
+  -- by the heights it tells what it tells by the meaning
+  pub shown_told : (p : List ℕ) (r : RowAnswer) → Placed v j (length p) r → Answers m v j r p → shown v j p r ≡ told_by m v j r
+  shown_told p (Ok u) placed a = ap (λ t. t ++ Wrote ∷ []) (front_told (width_of v) p (omega arith) placed.1 a.0)
+  shown_told p (Err (Blank f)) (high, wide, (i, l, here)) a =
+      let c = column_of v f.cell in
+      let is : c ≡ i = ap (column_of v) here ∙ column_is v i j in
+      let at : f.cell ≡ cell_of v c j = here ∙ ap (λ x. cell_of v x j) (sym is) in
+      let front = front_told c p (omega arith) (omega arith) a.0 in
+      let more = told_more m v j c in
+      let none = append-nil (row_told m v j (c + 1)) in
+      cc
+  shown_told p (Err Full) placed a = refl
+  shown_told p (Err Short) placed a = refl
 
-  front_told : (n : ℕ) (m : Meaning) → n ≤ length out → Front n → ((i : ℕ) → i < n → m (cell_of v i j) ≡ Ok (get_or out i 0)) → from ≡ past ++ row_told m v j n
-  front_told n m room so heights =
-      let long = length-take-le n out room in
-      so m (λ i l. let early : i < n = omega arith in heights i early ∙ ap Ok (sym (get_or-take n out i 0 early))) ∙ ap (λ (k : ℕ). past ++ row_told m v j k) long
+-- ---- what a row tells by its heights, as the answer is found
 
--- ---- the answer of a row
+module _ {v w : Window} {j k n : ℕ} (window : w ≡ v) (row : k ≡ j) (out : List ℕ) {r : RowAnswer} where
+  pub shown_whole : {u : Unit {0}} → r ≡ Ok u → n ≡ width_of w → heights_told w k (take n out) ++ Wrote ∷ [] ≡ shown v j out r
+  shown_whole {u} is wide = rw (is, wide, window, row)
 
--- the blank cell is the one of its column
-pub blank_at : (v : Window) (j k : ℕ) (r : RowAnswer) (f : BlankFault) → r ≡ Err (Blank f) → Placed v j k r → (column_of v f.cell < width_of v) × (width_of v ≤ k) × (f.cell ≡ cell_of v (column_of v f.cell) j)
-blank_at v j k r f e placed =
-    let (_, wide, (i, l, here)) = subst (Placed v j k) e placed in
-    let is : column_of v f.cell ≡ i = ap (column_of v) here ∙ column_is v i j in
-    (omega arith, wide, here ∙ ap (λ (x : ℕ). cell_of v x j) (sym is))
+  pub shown_blank : {f : BlankFault} → r ≡ Err (Blank f) → n ≡ column_of w f.cell → heights_told w k (take n out) ++ Asked f.cell (Err f.blank) ∷ [] ≡ shown v j out r
+  shown_blank is before = rw (is, before, window, row)
 
-module _ (v : Window) (j : ℕ) (out : List ℕ) (past from to : Journal) (r : RowAnswer) (placed : Placed v j (length out) r) where
-  abbrev pub TellsRow : RowAnswer → Type 0
-  TellsRow x = (m : Meaning) → Answers m v j x out → to ≡ past ++ told_by m v j x
-
-  pub wrote : (u : Unit {0}) (n : ℕ) → r ≡ Ok u → n ≡ width_of v → Front v j out past from n → to ≡ from ++ Wrote ∷ [] → TellsRow r
-  wrote u n e whole so then =
-      let place : Placed v j (length out) (Ok u) = subst (Placed v j (length out)) e placed in
-      subst TellsRow (sym e) (λ m a.
-      then ∙ ap (λ (t : Journal). t ++ Wrote ∷ []) (front_told v j out past from (width_of v) m place.1 (subst (Front v j out past from) whole so) a.0)
-      ∙ append_assoc past (row_told m v j (width_of v)) (Wrote ∷ []))
-
-  pub blank : (f : BlankFault) (n : ℕ) → r ≡ Err (Blank f) → n ≡ column_of v f.cell → Front v j out past from n → to ≡ from ++ Asked f.cell (Err f.blank) ∷ [] → TellsRow r
-  blank f n e before so then =
-      let i = column_of v f.cell in
-      let (within, wide, here) = blank_at v j (length out) r f e placed in
-      let room : i ≤ length out = omega arith in
-      subst TellsRow (sym e) (λ m a.
-      one_more m v j i f.cell (Err f.blank) past from to here (ap m (sym here) ∙ a.1) (front_told v j out past from i m room (subst (Front v j out past from) before so) a.0) then
-      ∙ ap (λ (t : Journal). past ++ t) (sym (append-nil (row_told m v j (i + 1)))))
+pub shown_refused : (v : Window) (j : ℕ) (out : List ℕ) {r : RowAnswer} {e : RowRefusal} → r ≡ Err e → (e ≡ Full) ⊎ (e ≡ Short) → Refused e ∷ [] ≡ shown v j out r
+shown_refused v j out is (inl full) = rw (is, full)
+shown_refused v j out is (inr short) = rw (is, short)

@@ -31,6 +31,7 @@ use Rattle.worlds.specs.Journals.{Held, Journal, Missing, Touched}
 use Rattle.worlds.specs.Worlds.{Fits, table_of}
 use Rattle.tracks.specs.declared.call.Call.{Call}
 use Rattle.tracks.specs.declared.call.Call.TheVariants.{Row}
+use Rattle.tracks.specs.declared.replay.TheConstants.{MOST_EVENTS}
 use Rattle.tracks.specs.declared.run.Phase.{Phase}
 use Rattle.tracks.specs.declared.run.Phase.TheVariants.{Alone, Open}
 use Rattle.tracks.specs.declared.run.Run.{Run}
@@ -98,5 +99,4 @@ module _ {F : Type 0} {g : Ghosts F} where
   pub record Replayed (f : F) (cs : List Call) (n : ℕ) (run : Run F g) : Type 0 where
     pub faithful : Faithful (g.meaning f) (take run.done cs) run.phase (vec_items run.journal)
     pub done : run.done ≤ length cs
-    -- no call tells more than 58 events
-    pub whole : 58 * length cs ≤ n → run.done ≡ length cs
+    pub whole : MOST_EVENTS * length cs ≤ n → run.done ≡ length cs

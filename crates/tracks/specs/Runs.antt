@@ -1,12 +1,14 @@
 -- What calls tell, by the meaning alone. Assumes nothing.
 --     Stage               a world by itself, or in a drawing of a window whose next row is known
+--     heights_told v j hs     the first cells of row j, where hs are their heights
 --     RowBy m v j n r     r is the answer to a row where row j is next and the caller's row has n places
 --     Does m s c j t      at the stage s the call c tells the journal j and leads to the stage t
 --     Runs m s cs j t     the calls cs do so one after another
-use Rattle.std.specs.Prelude.{◌≡◌, ℕ, ◌<◌, List, [], ◌∷◌, ◌++◌, Ok}
+use Rattle.std.specs.Prelude.{◌≡◌, ℕ, ◌<◌, List, [], ◌∷◌, ◌++◌, map, Ok}
+use Rattle.std.specs.List.{range_with_len, zip}
 use Rattle.grid.specs.declared.window.Window.{Window}
 use Rattle.grid.specs.Meanings.{Meaning}
-use Rattle.grid.specs.Windows.{cell_of}
+use Rattle.grid.specs.Windows.{cell_of, width_of}
 use Rattle.worlds.specs.declared.event.Event.TheVariants.{Asked, Begun, Cleared, Finished, Passed}
 use Rattle.worlds.specs.Journals.{Journal}
 use Rattle.worlds.specs.Rows.{BlankOf, Placed, RowAnswer, next_after, told_by, written}
@@ -16,6 +18,10 @@ use Rattle.tracks.specs.declared.call.Call.TheVariants.{Look, Clear, Begin, Row,
 pub data Stage : Type 0 where
   alone : Stage
   drawing : Window → ℕ → Stage
+
+-- told of its columns one by one
+abbrev pub heights_told : Window → ℕ → List ℕ → Journal
+heights_told v j hs = map (λ p. Asked (cell_of v p.0 j) (Ok p.1)) (zip (range_with_len 0 (width_of v)) hs)
 
 pub record RowBy (m : Meaning) (v : Window) (j n : ℕ) (r : RowAnswer) : Type 0 where
   pub placed : Placed v j n r

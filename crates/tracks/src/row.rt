@@ -1,36 +1,53 @@
 // A row of an open drawing, as a call of a track.
-ghost use Rattle.std.specs.Prelude.{◌≡◌, ◌+◌, ◌≤◌, length, vec_len, vec_capacity};
+ghost use Rattle.std.specs.Prelude.{◌≡◌};
 ghost use Rattle.grid.specs.Meanings.{Meaning};
-ghost use Rattle.tracks.specs.Promises.{Draws};
-ghost use Rattle.worlds.specs.Journals.{Journal};
+ghost use Rattle.tracks.specs.Promises.{Turns};
+ghost use Rattle.tracks.specs.Room.{HasRoom, UsesRoom};
+ghost use Rattle.worlds.specs.Rows.{column_of};
 
-use crate::tell::tell_row;
+use crate::call::Call;
+use crate::run::Phase;
+use crate::tell::Row;
+use grid::cell::Cell;
 use grid::field::Field;
-use grid::window::LONGEST_SIDE;
+use grid::window::{LONGEST_SIDE, Window};
 use worlds::drawing::Drawing;
 use worlds::event::Event;
+use worlds::refusal::RowRefusal;
 
-// The next row, into `row`.
-fn draw_into<F: Field>(drawing: &mut Drawing<F>, row: &mut [u16], journal: &mut Vec<Event>)
-    requires { vec_len journal.old + 58 ≤ vec_capacity journal.old }
-    ensures law { (m : Meaning) (before during : Journal) → Draws m (length row.old) before during drawing.old journal.old.items drawing.new journal.new.items }
-    ensures len { vec_len journal.new ≤ vec_len journal.old + 58 }
-    ensures capacity { vec_capacity journal.new ≡ vec_capacity journal.old }
+// The column of a cell of the window.
+fn column(window: Window, cell: Cell) -> u32
+    ensures { result ≡ column_of window cell }
 {
-    let window = drawing.window();
-    let number = drawing.next_row();
-    let answer = drawing.row(row);
-    tell_row(journal, window, number, answer, row);
+    cell.x.abs_diff(window.corner().x)
 }
 
-// The next row, into a row of its own with so many places. No window is wider than 57, so that many serve for more.
-pub(crate) fn draw_row<F: Field>(drawing: &mut Drawing<F>, places: usize, journal: &mut Vec<Event>)
-    requires { vec_len journal.old + 58 ≤ vec_capacity journal.old }
-    ensures law { (m : Meaning) (before during : Journal) → Draws m places before during drawing.old journal.old.items drawing.new journal.new.items }
-    ensures len { vec_len journal.new ≤ vec_len journal.old + 58 }
-    ensures capacity { vec_capacity journal.new ≡ vec_capacity journal.old }
-{
-    let mut row = [0u16; LONGEST_SIDE as usize];
-    let count = places.min(row.len());
-    draw_into(drawing, &mut row[0..count], journal);
+impl<F: Field> Phase<F> {
+    // The next row, into a row of its own with so many places. No window is wider than 57, so that many serve for more.
+    pub(crate) fn draw(mut drawing: Drawing<F>, places: usize, journal: &mut Vec<Event>) -> Phase<F>
+        requires { HasRoom journal.old }
+        ensures law { (m : Meaning) → Turns m (Phase.Open drawing) (Call.Row places) journal.old.items result journal.new.items }
+        ensures room { UsesRoom journal.old journal.new }
+    {
+        let window = drawing.window();
+        let number = drawing.next_row();
+        let mut row = [0u16; LONGEST_SIDE as usize];
+        let count = places.min(row.len());
+        let heights = &mut row[..count];
+        match drawing.row(heights) {
+            Ok(()) => {
+                let width = usize::from(window.width());
+                Row { window, number }.tell(&heights[..width], Event::Wrote, journal);
+            }
+            Err(RowRefusal::Blank(fault)) => {
+                let before = column(window, fault.cell) as usize;
+                let blank = Event::Asked(fault.cell, Err(fault.blank));
+                Row { window, number }.tell(&heights[..before], blank, journal);
+            }
+            Err(refusal @ (RowRefusal::Full | RowRefusal::Short)) => {
+                journal.push_reserved(Event::Refused(refusal));
+            }
+        }
+        Phase::Open(drawing)
+    }
 }
