@@ -4,6 +4,7 @@ use Rattle.grid.specs.declared.cell.Cell.{Cell}
 use Rattle.grid.specs.declared.chunk.Chunk.{Chunk}
 use Rattle.grid.specs.declared.field.Field.{Ghosts}
 use Rattle.grid.specs.declared.window.Window.{Window}
+use Rattle.grid.specs.Counts.{Counts}
 use Rattle.grid.specs.Meanings.{Answer, Meaning}
 use Rattle.tables.specs.declared.table.Table.{Table}
 use Rattle.tables.specs.Tables.{Right, holds}
@@ -12,10 +13,9 @@ use Rattle.worlds.specs.declared.event.Event.{Event}
 use Rattle.worlds.specs.declared.event.Event.TheVariants.{Asked, Begun, Cleared, Finished, Passed}
 use Rattle.worlds.specs.declared.world.World.{World}
 use Rattle.worlds.specs.Drawings.{Underway, fills_of, next_of, window_of, world_of}
-use Rattle.worlds.specs.Journals.{Held, InDrawing, Journal, Touched}
-use Rattle.worlds.specs.Calls.{Finishes, Rows}
-use Rattle.worlds.specs.Rows.{Answers, RowAnswer, next_after, told_by}
-use Rattle.worlds.specs.Worlds.{Fits, held_by, table_of}
+use Rattle.worlds.specs.Journals.{Held, InDrawing, Journal, Missing, Touched}
+use Rattle.worlds.specs.Rows.{Answers, Past, Placed, RowAnswer, next_after, told_by}
+use Rattle.worlds.specs.Worlds.{Fits, world_meaning, held_by, table_of}
 use Rattle.worlds.proofs.Fitting.{fits_idle}
 use Rattle.worlds.proofs.Histories.{all_right, held_both, held_idle}
 use Rattle.worlds.proofs.Stretches.{stretch_idle, stretch_more}
@@ -78,20 +78,21 @@ module _ {F : Type 0} {g : Ghosts F} (m : Meaning) where
   )
 
   -- a row into n places, or 57 that serve for more
-  pub turns_row : (n : ℕ) (i j : Journal) {d e : Drawing F g} {out p : List ℕ} {r : RowAnswer} → Rows d out r e p → length out ≡ min n 57 →
+  pub turns_row : (n : ℕ) (i j : Journal) {d e : Drawing F g} (out p : List ℕ) (r : RowAnswer) →
+      Placed (window_of d) (next_of d) (length out) r → Answers (world_meaning (world_of d)) (window_of d) (next_of d) r p → Past (window_of d) r out p → next_of e ≡ next_after r (next_of d) → window_of e ≡ window_of d →
+      ((before during : Journal) → Underway m d before during → Underway m e before (during ++ told_by m (window_of d) (next_of d) r)) → length out ≡ min n 57 →
       j ≡ i ++ shown (window_of d) (next_of d) p r → Turns m (Open d) (Row n) i (Open e) j
-  turns_row n i j {d} {e} {out} {p} {r} row room told s =
+  turns_row n i j {d} {e} out p r placed answers past after window history room told s =
       let v = window_of d in
       let y = next_of d in
-      let answer : Answers m v y r p = subst (λ (x : Meaning). Answers x v y r p) s.0.3.means row.answer in
+      let answer : Answers m v y r p = subst (λ (x : Meaning). Answers x v y r p) s.0.3.means answers in
       let es = told_by m v y r in
-      let is : j ≡ i ++ es = told ∙ ap (λ x. i ++ x) (shown_told m v y p r (rw row.past.0 row.placed) answer) in
-      let window = (row.goes m).window in
-      let next : drawing (window_of e) (next_of e) ≡ drawing v (next_after r y) = λ t. drawing (window t) (row.next t) in (
+      let is : j ≡ i ++ es = told ∙ ap (λ x. i ++ x) (shown_told m v y p r (rw past.0 placed) answer) in
+      let next : drawing (window_of e) (next_of e) ≡ drawing v (next_after r y) = λ t. drawing (window t) (after t) in (
         es,
         is,
-        (r, more_room m v y _ n r room (record { placed = row.placed; heights = λ i l. (get_or p i 0, answer.0 i l); blank = answer.1 }), refl, next),
-        rw is (sound_drawing d e i es s.0 window (row.history m s.0.0 s.0.1 s.0.3) s.1),
+        (r, more_room m v y _ n r room (record { placed = placed; heights = λ i l. (get_or p i 0, answer.0 i l); blank = answer.1 }), refl, next),
+        rw is (sound_drawing d e i es s.0 window (history s.0.0 s.0.1 s.0.3) s.1),
       )
 
   pub turns_passed : (k : Call) (i j : Journal) (d : Drawing F g) → ((c : Cell) × (k ≡ Look c)) ⊎ ((k ≡ Clear) ⊎ ((w : Window) × (k ≡ Begin w))) → j ≡ i ++ Passed ∷ [] →
@@ -106,17 +107,19 @@ module _ {F : Type 0} {g : Ghosts F} (m : Meaning) where
         rw told (sound_drawing d d i (Passed ∷ []) s.0 refl (record { means = u.means; table = rw add-zero at more }) s.1),
       )
 
-  pub turns_finish : (i j : Journal) {d : Drawing F g} {w : World F g} {n : ℕ} → Finishes d w n → j ≡ i ++ Finished n ∷ [] → Turns m (Open d) Finish i (Alone w) j
-  turns_finish i j {d} {w} {n} finishes told ((before, during, is, u), fair) =
+  pub turns_finish : (i j : Journal) {d : Drawing F g} {w : World F g} {n : ℕ} → w ≡ world_of d →
+      ((before during : Journal) → Underway m d before during → Counts n (Missing (Held before) during)) → ((before during : Journal) → Underway m d before during → (k : Chunk) → Touched during k → held_by w k ≡ true) →
+      ((before during : Journal) → Underway m d before during → Fits m w (before ++ Begun (window_of d) ∷ (during ++ Finished n ∷ []))) → j ≡ i ++ Finished n ∷ [] → Turns m (Open d) Finish i (Alone w) j
+  turns_finish i j {d} {w} {n} world exact holds history told ((before, during, is, u), fair) =
       let v = window_of d in
-      let held = λ (k : Chunk) (t : Touched during k). (held_idle k before during (Begun v) (λ z. z) tt).1 ((held_both k before during).1 ((u.table.held k).0 (rw finishes.world at (finishes.holds m before during u k t)))) in
+      let held = λ (k : Chunk) (t : Touched during k). (held_idle k before during (Begun v) (λ z. z) tt).1 ((held_both k before during).1 ((u.table.held k).0 (rw world at (holds before during u k t)))) in
       let between = drawing_between v during u.table.within in (
         Finished n ∷ [],
         told,
         (n, refl, refl),
         rw (told, is) (
-          rw append_assoc (finishes.history m before during u),
-          fair_finish before during v n (rw is at fair) between (finishes.exact m before during u, held),
+          rw append_assoc (history before during u),
+          fair_finish before during v n (rw is at fair) between (exact before during u, held),
         ),
       )
 

@@ -26,4 +26,5 @@ returns-clause-law g c = λ m.
           ap vec_items w.journal-is ∙ w.push_reserved.ensures.items ∙ ap after (shown_refused window number out w.in-Err-Full.is which)
     ] in
     let few : min c.min-count.result 57 ≡ min c.args.places 57 = omega (arith, c.min-count.ensures) in
-    turns_row m c.args.places past (vec_items c.match-row.journal) c.row.ensures (length-take c.min-count.result (replicate 57 0) ∙ few) told
+    let row = c.row.ensures in
+    turns_row m c.args.places past (vec_items c.match-row.journal) _ out c.row.result row.placed row.answer row.past row.next (row.goes m).window (row.history m) (length-take c.min-count.result (replicate 57 0) ∙ few) told
