@@ -2,12 +2,10 @@ use grid::cell::Cell;
 use grid::window::Window;
 use std::test::Fail;
 
-// What making a window answers: 0, or the number of the refusal.
-fn refusal(x: i32, y: i32, width: u16, height: u16) -> u8 {
-    match Window::new(Cell { x, y }, width, height) {
-        Ok(_) => 0,
-        Err(refusal) => refusal.number(),
-    }
+// The number with which a window is refused, if it is.
+fn refusal(x: i32, y: i32, width: u16, height: u16) -> Option<u8> {
+    let refused = Window::new(Cell { x, y }, width, height).err()?;
+    Some(refused.number())
 }
 
 #[test]
@@ -55,25 +53,25 @@ fn cells_compare(rt: HostRuntime) {
 fn windows_are_refused_by_size_and_then_by_rim(rt: HostRuntime) {
     let far = 1_000_000_000;
     let cases = [
-        (0, 0, 1, 1, 0),
-        (0, 0, 57, 57, 0),
-        (0, 0, 0, 1, 2),
-        (0, 0, 1, 0, 2),
-        (0, 0, 58, 1, 2),
-        (0, 0, 1, 58, 2),
-        (0, 0, 65535, 65535, 2),
-        (i32::MAX, 0, 0, 1, 2),
-        (999_999_944, 0, 57, 1, 0),
-        (999_999_945, 0, 57, 1, 3),
-        (0, 999_999_944, 1, 57, 0),
-        (0, 999_999_945, 1, 57, 3),
-        (-far, -far, 57, 57, 0),
-        (-far - 1, 0, 1, 1, 3),
-        (0, -far - 1, 1, 57, 3),
-        (far, far, 1, 1, 0),
-        (far, far, 2, 1, 3),
-        (i32::MAX, i32::MAX, 57, 57, 3),
-        (i32::MIN, i32::MIN, 57, 57, 3),
+        (0, 0, 1, 1, None),
+        (0, 0, 57, 57, None),
+        (0, 0, 0, 1, Some(2)),
+        (0, 0, 1, 0, Some(2)),
+        (0, 0, 58, 1, Some(2)),
+        (0, 0, 1, 58, Some(2)),
+        (0, 0, 65535, 65535, Some(2)),
+        (i32::MAX, 0, 0, 1, Some(2)),
+        (999_999_944, 0, 57, 1, None),
+        (999_999_945, 0, 57, 1, Some(3)),
+        (0, 999_999_944, 1, 57, None),
+        (0, 999_999_945, 1, 57, Some(3)),
+        (-far, -far, 57, 57, None),
+        (-far - 1, 0, 1, 1, Some(3)),
+        (0, -far - 1, 1, 57, Some(3)),
+        (far, far, 1, 1, None),
+        (far, far, 2, 1, Some(3)),
+        (i32::MAX, i32::MAX, 57, 57, Some(3)),
+        (i32::MIN, i32::MIN, 57, 57, Some(3)),
     ];
     for (x, y, width, height, expected) in cases {
         assert_eq!(rt; refusal(x, y, width, height), expected);

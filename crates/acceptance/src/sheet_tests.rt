@@ -84,10 +84,8 @@ fn lines_that_are_refused(rt: HostRuntime) -> Result<(), Fail> {
         b"raw 00000000000000000000000000000000000000000000000000000000000000000000 0 0 4 1\n",
     ];
     for line in lines {
-        match Request::read(line) {
-            Ok(_) => return Err(Fail::new("a bad line was read")),
-            Err(refusal) => assert_eq!(rt; refusal.number(), 1),
-        }
+        let refusal = Request::read(line).err().ok_or("a bad line was read")?;
+        assert_eq!(rt; refusal.number(), 1);
     }
     Ok(())
 }
