@@ -113,12 +113,6 @@ impl<F: Field> Drawing<F> {
         ensures few { (m : Meaning) (before during : Journal) → Underway m self before during → result.1 ≤ 64 }
         ensures history { (m : Meaning) (before during : Journal) → Underway m self before during → Fits m result.0 (before ++ Begun (window_of self) ∷ (during ++ Finished result.1 ∷ [])) }
     {
-        let Drawing {
-            world,
-            window: _,
-            next: _,
-            fills,
-        } = self;
-        (world, fills)
+        (self.world, self.fills)
     }
 }
