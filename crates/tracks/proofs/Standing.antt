@@ -3,6 +3,7 @@ use Rattle.std.proofs.Common.{◌≡◌, ℕ, true, ◌↔◌, List, [], ◌∷�
 use Rattle.grid.specs.declared.cell.Cell.{Cell}
 use Rattle.grid.specs.declared.chunk.Chunk.{Chunk}
 use Rattle.grid.specs.declared.field.Field.{Ghosts}
+use Rattle.grid.specs.declared.window.TheConstants.{LONGEST_SIDE}
 use Rattle.grid.specs.declared.window.Window.{Window}
 use Rattle.grid.specs.Meanings.{Answer, Meaning}
 use Rattle.tables.specs.declared.table.Table.{Table}
@@ -77,8 +78,8 @@ module _ {F : Type 0} {g : Ghosts F} (m : Meaning) where
     fair_between j i fair (drawing_between (window_of e) i (all_right (InDrawing (window_of e)) during i u.table.within)),
   )
 
-  -- a row into n places, or 57 that serve for more
-  pub turns_row : (n : ℕ) (i j : Journal) {d e : Drawing F g} {out p : List ℕ} {r : RowAnswer} → Rows d out r e p → length out ≡ min n 57 →
+  -- a row into n places, or as many of them as serve
+  pub turns_row : (n : ℕ) (i j : Journal) {d e : Drawing F g} {out p : List ℕ} {r : RowAnswer} → Rows d out r e p → length out ≡ min n LONGEST_SIDE →
       j ≡ i ++ shown (window_of d) (next_of d) p r → Turns m (Open d) (Row n) i (Open e) j
   turns_row n i j {d} {e} {out} {p} {r} row room told s =
       let v = window_of d in

@@ -2,6 +2,7 @@
 use Rattle.std.proofs.Common.{◌≡◌, ℕ, min, List, [], ◌∷◌, ◌++◌, Ok, Err, sym, refl, ap, ◌∙◌, subst, inl, inr, ⊎_elim, append_assoc, append-nil, arith}
 use Rattle.grid.specs.declared.cell.Cell.{Cell}
 use Rattle.grid.specs.declared.field.Field.{Ghosts}
+use Rattle.grid.specs.declared.window.TheConstants.{LONGEST_SIDE}
 use Rattle.grid.specs.declared.window.Window.{Window}
 use Rattle.grid.specs.Meanings.{Answer, Meaning}
 use Rattle.grid.specs.Piles.{carry}
@@ -70,13 +71,13 @@ runs_more m s [] k j i t u (none, same) does =
 runs_more m s (l ∷ ks) k j i t u (a, w, b, first, rest, is) does =
     (a, w, b ++ i, first, runs_more m w ks k b i t u rest does, ap (λ (x : Journal). x ++ i) is ∙ append_assoc a b i)
 
--- 57 places of a caller's row serve for more
-module _ (v : Window) (j n k : ℕ) (few : n ≡ min k 57) where
+-- no window is wider than the longest side, so that many places of a caller's row serve for more
+module _ (v : Window) (j n k : ℕ) (few : n ≡ min k LONGEST_SIDE) where
   still_placed : (r : RowAnswer) → Placed v j n r → Placed v j k r
   still_placed (Ok u) p = let w = v.wide.1 in (p.0, omega (arith, p.1))
   still_placed (Err (Blank f)) p = let w = v.wide.1 in (p.0, omega (arith, p.1), p.2)
   still_placed (Err Full) p = p
   still_placed (Err Short) p = let w = v.wide.1 in (p.0, omega (arith, p.1))
 
-pub more_room : (m : Meaning) (v : Window) (j n k : ℕ) (r : RowAnswer) → n ≡ min k 57 → RowBy m v j n r → RowBy m v j k r
+pub more_room : (m : Meaning) (v : Window) (j n k : ℕ) (r : RowAnswer) → n ≡ min k LONGEST_SIDE → RowBy m v j n r → RowBy m v j k r
 more_room m v j n k r few by = record { placed = still_placed v j n k few r by.placed; heights = by.heights; blank = by.blank }

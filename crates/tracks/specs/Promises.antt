@@ -91,4 +91,5 @@ module _ {F : Type 0} {g : Ghosts F} where
   pub record Replayed (f : F) (cs : List Call) (n : ℕ) (run : Run F g) : Type 0 where
     pub faithful : Faithful (g.meaning f) (take run.done cs) run.phase (vec_items run.journal)
     pub done : run.done ≤ length cs
+    -- no call tells more events than that
     pub whole : MOST_EVENTS * length cs ≤ n → run.done ≡ length cs
