@@ -3,6 +3,7 @@ use Rattle.std.proofs.Common.{◌≡◌, ℕ, true, ◌↔◌, List, [], ◌∷�
 use Rattle.grid.specs.declared.cell.Cell.{Cell}
 use Rattle.grid.specs.declared.chunk.Chunk.{Chunk}
 use Rattle.grid.specs.declared.field.Field.{Ghosts}
+use Rattle.grid.specs.declared.window.TheConstants.{LONGEST_SIDE}
 use Rattle.grid.specs.declared.window.Window.{Window}
 use Rattle.grid.specs.Counts.{Counts}
 use Rattle.grid.specs.Meanings.{Answer, Meaning}
@@ -77,10 +78,10 @@ module _ {F : Type 0} {g : Ghosts F} (m : Meaning) where
     fair_between j i fair (drawing_between (window_of e) i (all_right (InDrawing (window_of e)) during i u.table.within)),
   )
 
-  -- a row into n places, or 57 that serve for more
+  -- a row into n places, or as many of them as serve
   pub turns_row : (n : ℕ) (i j : Journal) {d e : Drawing F g} (out p : List ℕ) (r : RowAnswer) →
       Placed (window_of d) (next_of d) (length out) r → Answers (world_meaning (world_of d)) (window_of d) (next_of d) r p → Past (window_of d) r out p → next_of e ≡ next_after r (next_of d) → window_of e ≡ window_of d →
-      ((before during : Journal) → Underway m d before during → Underway m e before (during ++ told_by m (window_of d) (next_of d) r)) → length out ≡ min n 57 →
+      ((before during : Journal) → Underway m d before during → Underway m e before (during ++ told_by m (window_of d) (next_of d) r)) → length out ≡ min n LONGEST_SIDE →
       j ≡ i ++ shown (window_of d) (next_of d) p r → Turns m (Open d) (Row n) i (Open e) j
   turns_row n i j {d} {e} out p r placed answers past after window history room told s =
       let v = window_of d in

@@ -1,77 +1,67 @@
 -- What runs tell is what the field means, and only nearby ground matters to it. Assumes nothing.
 use Rattle.std.proofs.Common.{◌≡◌, ℕ, min, List, [], ◌∷◌, ◌++◌, Ok, Err, sym, refl, ap, ◌∙◌, subst, inl, inr, ⊎_elim, append_assoc, append-nil, arith}
+use Rattle.grid.specs.declared.cell.Cell.{Cell}
+use Rattle.grid.specs.declared.field.Field.{Ghosts}
+use Rattle.grid.specs.declared.window.TheConstants.{LONGEST_SIDE}
 use Rattle.grid.specs.declared.window.Window.{Window}
-use Rattle.grid.specs.Counts.{Among}
-use Rattle.grid.specs.Meanings.{Meaning}
+use Rattle.grid.specs.Meanings.{Answer, Meaning}
 use Rattle.grid.specs.Piles.{carry}
 use Rattle.grid.specs.Windows.{cell_of}
 use Rattle.grid.proofs.Counting.{numbered}
 use Rattle.grid.proofs.Locality.{locality}
 use Rattle.worlds.specs.declared.event.Event.{Event}
-use Rattle.worlds.specs.declared.event.Event.TheVariants.{Asked, Begun, Cleared, Finished, Passed, Refused, Wrote}
+use Rattle.worlds.specs.declared.event.Event.TheVariants.{Asked}
 use Rattle.worlds.specs.declared.refusal.RowRefusal.TheVariants.{Full, Short, Blank}
 use Rattle.worlds.specs.Journals.{Journal}
 use Rattle.worlds.specs.Rows.{Placed, RowAnswer, asked, ending, row_told}
 use Rattle.worlds.proofs.Unions.{among_cases}
 use Rattle.tracks.specs.declared.call.Call.{Call}
 use Rattle.tracks.specs.declared.call.Call.TheVariants.{Look, Clear, Begin, Row, Finish}
-use Rattle.tracks.specs.Promises.{NearOnly}
+use Rattle.tracks.specs.declared.run.Phase.{Phase}
+use Rattle.tracks.specs.Promises.{Faithful, NearOnly, Told}
 use Rattle.tracks.specs.Runs.{Does, RowBy, Runs, Stage, alone, drawing}
 
-module _ (m : Meaning) where
-  -- what an event tells is what the field means
-  abbrev Truly : Event → Type 0
-  Truly (Asked c a) = a ≡ m c
-  Truly Cleared = Unit {0}
-  Truly (Begun v) = Unit {0}
-  Truly Wrote = Unit {0}
-  Truly (Refused n) = Unit {0}
-  Truly (Finished n) = Unit {0}
-  Truly Passed = Unit {0}
+-- ---- what is told of a cell is what the field means
 
-  abbrev AllTrue : Journal → Type 0
-  AllTrue j = (e : Event) → Among j e → Truly e
+module _ (m : Meaning) (c : Cell) (a : Answer) where
+  one_told : {e : Event} {j : Journal} → j ≡ e ∷ [] → (e ≡ Asked c a → a ≡ m c) → Told j c a → a ≡ m c
+  one_told is means told = ⊎_elim means absurd (rw is at told)
 
-  one_true : (e : Event) → Truly e → (j : Journal) → j ≡ e ∷ [] → AllTrue j
-  one_true e t j is = subst AllTrue (sym is) (λ f a. ⊎_elim (λ same. subst Truly same t) absurd a)
+  row_told_true : (v : Window) (y n : ℕ) → Told (row_told m v y n) c a → a ≡ m c
+  row_told_true v y n told = let e = (numbered (λ (i : ℕ). Asked (cell_of v i y) (m (cell_of v i y))) 0 n (Asked c a) told).3 in cc
 
-  both_true : (i j k : Journal) → k ≡ i ++ j → AllTrue i → AllTrue j → AllTrue k
-  both_true i j k is s t = subst AllTrue (sym is) (λ e a. ⊎_elim (s e) (t e) (among_cases i j e a))
+  ending_told : (r : RowAnswer) → Told (ending r) c a → a ≡ m c
+  ending_told (Ok u) told = one_told refl (λ e. cc) told
+  ending_told (Err (Blank f)) told = absurd told
+  ending_told (Err Full) told = one_told refl (λ e. cc) told
+  ending_told (Err Short) told = one_told refl (λ e. cc) told
 
-  row_true : (v : Window) (j n : ℕ) → AllTrue (row_told m v j n)
-  row_true v j n e a =
-      let r = numbered (λ (i : ℕ). Asked (cell_of v i j) (m (cell_of v i j))) 0 n e a in
-      subst Truly r.3 refl
+  does_told : (s : Stage) (k : Call) (j : Journal) (t : Stage) → Does m s k j t → Told j c a → a ≡ m c
+  does_told alone (Look x) j t does = one_told does.0 (λ e. cc)
+  does_told alone Clear j t does = one_told does.0 (λ e. cc)
+  does_told alone (Begin v) j t does = one_told does.0 (λ e. cc)
+  does_told alone (Row n) j t does = one_told does.0 (λ e. cc)
+  does_told alone Finish j t does = one_told does.0 (λ e. cc)
+  does_told (drawing v y) (Look x) j t does = one_told does.0 (λ e. cc)
+  does_told (drawing v y) Clear j t does = one_told does.0 (λ e. cc)
+  does_told (drawing v y) (Begin w) j t does = one_told does.0 (λ e. cc)
+  does_told (drawing v y) (Row n) j t (r, by, is, to) = λ told.
+      ⊎_elim (row_told_true v y (asked v r)) (ending_told r) (among_cases (row_told m v y (asked v r)) (ending r) (Asked c a) (rw is at told))
+  does_told (drawing v y) Finish j t (n, is, to) = one_told is (λ e. cc)
 
-  ending_true : (r : RowAnswer) → AllTrue (ending r)
-  ending_true (Ok u) = one_true Wrote tt (Wrote ∷ []) refl
-  ending_true (Err (Blank f)) = λ e a. absurd a
-  ending_true (Err Full) = one_true (Refused Full) tt (Refused Full ∷ []) refl
-  ending_true (Err Short) = one_true (Refused Short) tt (Refused Short ∷ []) refl
-
-  does_true : (s : Stage) (k : Call) (j : Journal) (t : Stage) → Does m s k j t → AllTrue j
-  does_true alone (Look c) j t h = one_true (Asked c (m c)) refl j h.0
-  does_true alone Clear j t h = one_true Cleared tt j h.0
-  does_true alone (Begin v) j t h = one_true (Begun v) tt j h.0
-  does_true alone (Row n) j t h = one_true Passed tt j h.0
-  does_true alone Finish j t h = one_true Passed tt j h.0
-  does_true (drawing v y) (Look c) j t h = one_true Passed tt j h.0
-  does_true (drawing v y) Clear j t h = one_true Passed tt j h.0
-  does_true (drawing v y) (Begin w) j t h = one_true Passed tt j h.0
-  does_true (drawing v y) (Row n) j t (r, by, is, to) = both_true (row_told m v y (asked v r)) (ending r) j is (row_true v y (asked v r)) (ending_true r)
-  does_true (drawing v y) Finish j t (n, is, to) = one_true (Finished n) tt j is
-
-  runs_true : (s : Stage) (ks : List Call) (j : Journal) (t : Stage) → Runs m s ks j t → AllTrue j
-  runs_true s [] j t h = subst AllTrue (sym h.0) (λ e a. absurd a)
-  runs_true s (k ∷ ks) j t (i, u, l, does, runs, is) = both_true i l j is (does_true s k i u does) (runs_true u ks l t runs)
+  runs_told : (s : Stage) (ks : List Call) (j : Journal) (t : Stage) → Runs m s ks j t → Told j c a → a ≡ m c
+  runs_told s [] j t runs told = absurd (rw runs.0 at told)
+  runs_told s (k ∷ ks) j t (i, u, l, does, runs, is) told =
+      ⊎_elim (does_told s k i u does) (runs_told u ks l t runs) (among_cases i l (Asked c a) (rw is at told))
 
 -- two runs of any calls on two fields
-pub runs_near : (m n : Meaning) (s t : Stage) (ks ls : List Call) (j l : Journal) (u v : Stage) → Runs m s ks j u → Runs n t ls l v → NearOnly m n j l
-runs_near m n s t ks ls j l u v p q rs g h e f c agree a (inl told) =
-    let is : a ≡ carry rs g c = runs_true m s ks j u p (Asked c a) told ∙ ap (λ (x : Meaning). x c) e in
+pub faithful_near : {F G : Type 0} {g : Ghosts F} {h : Ghosts G} {m n : Meaning} {ks ls : List Call} {p : Phase F g} {q : Phase G h} {j l : Journal} →
+    Faithful m ks p j → Faithful n ls q l → NearOnly m n j l
+faithful_near {m = m} {ks = ks} {j = j} one other rs g h first second c agree a (inl told) =
+    let is : a ≡ carry rs g c = rw first at (runs_told m c a alone ks j _ one.answers told) in
     (is, is ∙ locality rs g h c agree)
-runs_near m n s t ks ls j l u v p q rs g h e f c agree a (inr told) =
-    let is : a ≡ carry rs h c = runs_true n t ls l v q (Asked c a) told ∙ ap (λ (x : Meaning). x c) f in
+faithful_near {n = n} {ls = ls} {l = l} one other rs g h first second c agree a (inr told) =
+    let is : a ≡ carry rs h c = rw second at (runs_told n c a alone ls l _ other.answers told) in
     (is ∙ sym (locality rs g h c agree), is)
 
 -- one more call of a run
@@ -81,13 +71,13 @@ runs_more m s [] k j i t u (none, same) does =
 runs_more m s (l ∷ ks) k j i t u (a, w, b, first, rest, is) does =
     (a, w, b ++ i, first, runs_more m w ks k b i t u rest does, ap (λ (x : Journal). x ++ i) is ∙ append_assoc a b i)
 
--- 57 places of a caller's row serve for more
-module _ (v : Window) (j n k : ℕ) (few : n ≡ min k 57) where
+-- no window is wider than the longest side, so that many places of a caller's row serve for more
+module _ (v : Window) (j n k : ℕ) (few : n ≡ min k LONGEST_SIDE) where
   still_placed : (r : RowAnswer) → Placed v j n r → Placed v j k r
   still_placed (Ok u) p = let w = v.wide.1 in (p.0, omega (arith, p.1))
   still_placed (Err (Blank f)) p = let w = v.wide.1 in (p.0, omega (arith, p.1), p.2)
   still_placed (Err Full) p = p
   still_placed (Err Short) p = let w = v.wide.1 in (p.0, omega (arith, p.1))
 
-pub more_room : (m : Meaning) (v : Window) (j n k : ℕ) (r : RowAnswer) → n ≡ min k 57 → RowBy m v j n r → RowBy m v j k r
+pub more_room : (m : Meaning) (v : Window) (j n k : ℕ) (r : RowAnswer) → n ≡ min k LONGEST_SIDE → RowBy m v j n r → RowBy m v j k r
 more_room m v j n k r few by = record { placed = still_placed v j n k few r by.placed; heights = by.heights; blank = by.blank }

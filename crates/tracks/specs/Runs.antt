@@ -1,6 +1,6 @@
 -- What calls tell, by the meaning alone. Assumes nothing.
 --     Stage               a world by itself, or in a drawing of a window whose next row is known
---     heights_told v j hs     the first cells of row j, where hs are their heights
+--     heights_told v j hs     what the first cells of row j tell, where hs are their heights
 --     RowBy m v j n r     r is the answer to a row where row j is next and the caller's row has n places
 --     Does m s c j t      at the stage s the call c tells the journal j and leads to the stage t
 --     Runs m s cs j t     the calls cs do so one after another
@@ -19,7 +19,6 @@ pub data Stage : Type 0 where
   alone : Stage
   drawing : Window → ℕ → Stage
 
--- told of its columns one by one
 abbrev pub heights_told : Window → ℕ → List ℕ → Journal
 heights_told v j hs = map (λ p. Asked (cell_of v p.0 j) (Ok p.1)) (zip (range_with_len 0 (width_of v)) hs)
 

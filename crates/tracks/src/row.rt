@@ -16,14 +16,14 @@ use worlds::event::Event;
 use worlds::refusal::RowRefusal;
 
 // The column of a cell of the window.
-fn column(window: Window, cell: Cell) -> u32
+fn column(window: Window, cell: Cell) -> usize
     ensures { result ≡ column_of window cell }
 {
-    cell.x.abs_diff(window.corner().x)
+    cell.x.abs_diff(window.corner().x) as usize
 }
 
 impl<F: Field> Phase<F> {
-    // The next row, into a row of its own with so many places. No window is wider than 57, so that many serve for more.
+    // Draws the next row into one of its own with so many places, and tells it. No window is wider than 57, so that many serve for more.
     pub(crate) fn draw(mut drawing: Drawing<F>, places: usize, journal: &mut Vec<Event>) -> Phase<F>
         requires { HasRoom journal.old }
         ensures law { (m : Meaning) → Turns m (Phase.Open drawing) (Call.Row places) journal.old.items result journal.new.items }
@@ -31,16 +31,16 @@ impl<F: Field> Phase<F> {
     {
         let window = drawing.window();
         let number = drawing.next_row();
-        let mut row = [0u16; LONGEST_SIDE as usize];
-        let count = places.min(row.len());
-        let heights = &mut row[..count];
+        let mut own = [0u16; LONGEST_SIDE as usize];
+        let count = places.min(own.len());
+        let heights = &mut own[..count];
         match drawing.row(heights) {
             Ok(()) => {
                 let width = usize::from(window.width());
                 Row { window, number }.tell(&heights[..width], Event::Wrote, journal);
             }
             Err(RowRefusal::Blank(fault)) => {
-                let before = column(window, fault.cell) as usize;
+                let before = column(window, fault.cell);
                 let blank = Event::Asked(fault.cell, Err(fault.blank));
                 Row { window, number }.tell(&heights[..before], blank, journal);
             }

@@ -7,7 +7,7 @@ ghost use Rattle.tracks.specs.Runs.{heights_told};
 use grid::window::Window;
 use worlds::event::Event;
 
-// A row of a window.
+// A row that a window has.
 #[derive(Clone, Copy)]
 pub(crate) struct Row {
     pub(crate) window: Window,

@@ -5,6 +5,8 @@ use Rattle.tracks.proofs.replay.replay.Given as goal
 
 abbrev pub invariant-loop-done : goal.invariant-loop-done
 invariant-loop-done g l =
-    (vec_len l.journal ≤ MOST_EVENTS * l.done)
-    × (vec_capacity l.fn.room ≤ vec_capacity l.journal)
-    × Faithful (g.F.Field.meaning l.fn.field) (take l.done l.calls) l.phase (vec_items l.journal)
+    record {
+      few : vec_len l.journal ≤ MOST_EVENTS * l.done;
+      room : vec_capacity l.fn.room ≤ vec_capacity l.journal;
+      faithful : Faithful (g.F.Field.meaning l.fn.field) (take l.done l.calls) l.phase (vec_items l.journal);
+    }

@@ -1,4 +1,5 @@
 use Rattle.std.proofs.Common.{◌≡◌, List, ◌++◌, ◌⊎◌, Err, replicate, min, vec_items, length-take, ap, ◌∙◌, arith, rules}
+use Rattle.grid.specs.declared.window.TheConstants.{LONGEST_SIDE}
 use Rattle.worlds.specs.declared.event.Event.{Event}
 use Rattle.worlds.specs.declared.refusal.RowRefusal.TheVariants.{Blank, Full, Short}
 use Rattle.worlds.specs.Drawings.{next_of, window_of}
@@ -25,6 +26,6 @@ returns-clause-law g c = λ m.
           let which : (w.in-Err-Full.refusal ≡ Full) ⊎ (w.in-Err-Full.refusal ≡ Short) = search rules in
           ap vec_items w.journal-is ∙ w.push_reserved.ensures.items ∙ ap after (shown_refused window number out w.in-Err-Full.is which)
     ] in
-    let few : min c.min-count.result 57 ≡ min c.args.places 57 = omega (arith, c.min-count.ensures) in
+    let few : min c.min-count.result LONGEST_SIDE ≡ min c.args.places LONGEST_SIDE = omega (arith, c.min-count.ensures) in
     let row = c.row.ensures in
-    turns_row m c.args.places past (vec_items c.match-row.journal) _ out c.row.result row.placed row.answer row.past row.next (row.goes m).window (row.history m) (length-take c.min-count.result (replicate 57 0) ∙ few) told
+    turns_row m c.args.places past (vec_items c.match-row.journal) _ out c.row.result row.placed row.answer row.past row.next (row.goes m).window (row.history m) (length-take c.min-count.result (replicate LONGEST_SIDE 0) ∙ few) told
