@@ -9,7 +9,7 @@ use std::process::Abort;
 use std::test::Fail;
 use tracks::call::Call;
 use tracks::compare::compare;
-use tracks::replay::replay;
+use tracks::replay::Track;
 use worlds::event::Event;
 use worlds::refusal::RowRefusal;
 
@@ -44,7 +44,12 @@ fn a_track_tells_each_call(rt: HostRuntime) -> Result<(), Fail> {
         Call::Clear,
         Call::Finish,
     ];
-    let run = replay(Constant::new(7), &calls, Vec::new(rt.alloc()));
+    let track = Track {
+        field: Constant::new(7),
+        calls: &calls,
+        room: Vec::new(rt.alloc()),
+    };
+    let run = track.replay();
     assert_eq!(rt; run.done, 11);
     let journal = run.journal.as_slice();
     assert_eq!(rt; journal.len(), 17);
@@ -84,14 +89,17 @@ fn two_worlds_answer_alike(rt: HostRuntime) -> Result<(), Fail> {
     ];
     // The same rules over the same noise, with caches below each layer and with none.
     let plain = Layer::new(Layer::new(Noise::new(9), Smoothing {}), Smoothing {});
-    let (one, other) = compare(
-        heights(9),
-        &looks,
-        Vec::new(rt.alloc()),
-        plain,
-        &drawings,
-        Vec::new(rt.alloc()),
-    );
+    let first = Track {
+        field: heights(9),
+        calls: &looks,
+        room: Vec::new(rt.alloc()),
+    };
+    let second = Track {
+        field: plain,
+        calls: &drawings,
+        room: Vec::new(rt.alloc()),
+    };
+    let (one, other) = compare(first, second);
     check_told(&rt, one.journal.as_slice(), here, 2249);
     check_told(&rt, other.journal.as_slice(), here, 2249);
     Ok(())

@@ -9,8 +9,8 @@
 --     Sound m p j         and the fills in the journal are fair
 --     Turns m p c i q j   of a sound world: the call c leads from the phase p with the journal i to q with j
 --     Faithful m cs p j   on a world just opened that means m, the calls cs told j and led to p
---     Replayed f cs n run     what a run of the calls cs on a world of the field f gives, where the caller's vector had n places
-use Rattle.std.specs.Prelude.{◌≡◌, ℕ, ◌*◌, ◌≤◌, true, ◌⊎◌, ◌↔◌, List, ◌∷◌, ◌++◌, length, take, vec_items}
+--     Replayed t run      what a run of the track t gives
+use Rattle.std.specs.Prelude.{◌≡◌, ℕ, ◌*◌, ◌≤◌, true, ◌⊎◌, ◌↔◌, List, ◌∷◌, ◌++◌, length, take, vec_items, vec_capacity}
 use Rattle.std.specs.List.{AllByRecursion}
 use Rattle.grid.specs.declared.cell.Cell.{Cell}
 use Rattle.grid.specs.declared.chunk.Chunk.{Chunk}
@@ -29,6 +29,7 @@ use Rattle.worlds.specs.Journals.{Held, Journal, Missing, Touched}
 use Rattle.worlds.specs.Worlds.{Fits, table_of}
 use Rattle.tracks.specs.declared.call.Call.{Call}
 use Rattle.tracks.specs.declared.replay.TheConstants.{MOST_EVENTS}
+use Rattle.tracks.specs.declared.replay.Track.{Track}
 use Rattle.tracks.specs.declared.run.Phase.{Phase}
 use Rattle.tracks.specs.declared.run.Phase.TheVariants.{Alone, Open}
 use Rattle.tracks.specs.declared.run.Run.{Run}
@@ -88,8 +89,8 @@ module _ {F : Type 0} {g : Ghosts F} where
     pub held : (k : Chunk) → Holds m (table_in p) k ↔ Held j k
     pub stands : Stands m p j
 
-  pub record Replayed (f : F) (cs : List Call) (n : ℕ) (run : Run F g) : Type 0 where
-    pub faithful : Faithful (g.meaning f) (take run.done cs) run.phase (vec_items run.journal)
-    pub done : run.done ≤ length cs
+  pub record Replayed (t : Track F) (run : Run F g) : Type 0 where
+    pub faithful : Faithful (g.meaning t.field) (take run.done t.calls.now) run.phase (vec_items run.journal)
+    pub done : run.done ≤ length t.calls.now
     -- no call tells more events than that
-    pub whole : MOST_EVENTS * length cs ≤ n → run.done ≡ length cs
+    pub whole : MOST_EVENTS * length t.calls.now ≤ vec_capacity t.room → run.done ≡ length t.calls.now

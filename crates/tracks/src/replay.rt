@@ -1,5 +1,4 @@
-// A track, run on a world of its own.
-ghost use Rattle.std.specs.Prelude.{vec_capacity};
+// Tracks, run on worlds of their own.
 ghost use Rattle.tracks.specs.Promises.{Replayed};
 
 use crate::call::Call;
@@ -12,27 +11,39 @@ use worlds::world::World;
 // The greatest number of events that one call tells: the cells of a row, and that it is written.
 pub const MOST_EVENTS: usize = LONGEST_SIDE as usize + 1;
 
-// Opens a world on the field and makes the calls one after another. The journal is made in `room`, which grows as it must:
-// before each call there is room for all that it can tell, so that no call that was made goes untold, and want of memory ends the run before a call.
-pub fn replay<F: Field>(field: F, calls: &[Call], room: Vec<Event>) -> Run<F>
-    ensures { Replayed field calls.now (vec_capacity room) result }
-{
-    let mut journal = room;
-    journal.clear();
-    let mut phase = Phase::Alone(World::open(field));
-    for (done, call) in calls.iter().enumerate() {
-        if journal.reserve(MOST_EVENTS).is_err() {
-            return Run {
-                phase,
-                done,
-                journal,
-            };
+// Calls that are made one after another on a world of this field.
+#[derive(Drop)]
+pub struct Track<'a, F> {
+    pub field: F,
+    pub calls: &'a [Call],
+    // The journal is made in this vector, which grows as it must.
+    pub room: Vec<Event>,
+}
+
+impl<F: Field> Track<'_, F> {
+    // Opens the world and makes the calls. Before each of them there is room for all that it can tell,
+    // so that no call that was made goes untold, and want of memory ends the run before a call.
+    pub fn replay(self) -> Run<F>
+        ensures { Replayed self.entry result }
+    {
+        let Track { field, calls, room } = self;
+        let mut journal = room;
+        journal.clear();
+        let mut phase = Phase::Alone(World::open(field));
+        for (done, call) in calls.iter().enumerate() {
+            if journal.reserve(MOST_EVENTS).is_err() {
+                return Run {
+                    phase,
+                    done,
+                    journal,
+                };
+            }
+            phase = phase.turn(*call, &mut journal);
         }
-        phase = phase.turn(*call, &mut journal);
-    }
-    Run {
-        phase,
-        done: calls.len(),
-        journal,
+        Run {
+            phase,
+            done: calls.len(),
+            journal,
+        }
     }
 }
