@@ -38,6 +38,7 @@ impl Plan {
         ensures { IfOk result (λ t. Drawn (formula (rules_of self.kind) self.seed) self.window (string_bytes t)) }
     {
         let Plan { kind, seed, window } = self;
+        // Each kind is a type of its own. One enum of the four piles, itself a field, is no plainer: it takes a generic enum with laws to save two matches.
         match kind {
             Kind::Raw => draw(heap, Noise::new(seed), window),
             Kind::Heights => draw(heap, heights(seed), window),

@@ -20,7 +20,7 @@ const SEED: u64 = 1;
 // A part of what is stored for one window serves again for the next.
 const COURSE: Course = Course { east: 40, south: 7 };
 
-// What counts for a blank. No height is as great.
+// What counts for a blank in the checksum, which is made of numbers. No height is as great.
 const BLANK: u16 = 65_535;
 
 // Asks one row of a window from west to east.

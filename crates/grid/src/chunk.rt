@@ -10,6 +10,7 @@ pub struct Chunk {
 }
 
 // The place of two coordinates, modulo 8, among 8 rows of 8, in reading order from 0 to 63.
+// No `From` leads from an `i32` to an index, and a `try_from` would have an error that never comes.
 pub(crate) fn among_64(x: i32, y: i32) -> usize
     ensures value { result ≡ 8 * rest y + rest x }
     ensures bound { result < 64 }

@@ -7,7 +7,7 @@ use grid::blank::Blank;
 use grid::cell::Cell;
 use grid::field::Field;
 
-// The constant that is blank everywhere.
+// The constant that is blank everywhere. It stays a number, since users give it as one.
 pub const BLANK: u16 = 65_535;
 
 #[derive(Clone, Copy, Debug)]

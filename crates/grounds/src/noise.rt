@@ -27,7 +27,7 @@ impl Noise {
         Noise { seed }
     }
 
-    // The height at this cell: the top 12 bits of the output that has the cell's own number.
+    // The height at this cell: the top 12 bits of the output that has the cell's own number. They fit, and a `try_from` would have an error that never comes.
     pub fn height(&self, at: Cell) -> u16
         ensures value { result ≡ noise_height (seed_of self.now) at }
         ensures bound { result < 4096 }

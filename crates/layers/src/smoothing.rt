@@ -32,6 +32,7 @@ impl Rule for Smoothing {
     }
 
     fn answer(&self, square: &[u16]) -> u16 {
+        // An average of heights is one; a `try_from` would have an error that never comes.
         (weighed(&WEIGHTS, square) / 16) as u16
     }
 }

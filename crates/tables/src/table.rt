@@ -7,7 +7,7 @@ ghost use Rattle.tables.specs.Tables.{holding, holds, index_of, sparing, stored,
 use grid::cell::Cell;
 use grid::chunk::Chunk;
 
-// What stands in a table for a blank. No height is as great.
+// What stands in a table for a blank. No height is as great. The array keeps plain numbers, as the project wants them; whoever asks gets an Option.
 pub const MARK: u16 = 65_535;
 
 // The heights are one array of fixed size, without the heap, as the project wants them; so the addresses stand beside it.

@@ -15,7 +15,7 @@ use worlds::drawing::Drawing;
 use worlds::event::Event;
 use worlds::refusal::RowRefusal;
 
-// The column of a cell of the window.
+// The column of a cell of the window. It is at most 56, so no `try_from` is needed.
 fn column(window: Window, cell: Cell) -> usize
     ensures { result ≡ column_of window cell }
 {
@@ -31,6 +31,7 @@ impl<F: Field> Phase<F> {
     {
         let window = drawing.window();
         let number = drawing.next_row();
+        // No vector: a call that is made must not end for want of memory.
         let mut own = [0u16; LONGEST_SIDE as usize];
         let count = places.min(own.len());
         let heights = &mut own[..count];

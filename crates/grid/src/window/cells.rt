@@ -11,7 +11,7 @@ use crate::cell::Cell;
 fn chunks_along(first: i32, n: u16) -> u32
     ensures { result ≡ (rest first + n + 7) / 8 }
 {
-    (first.rem_euclid(8) as u32 + u32::from(n) + 7) / 8
+    (first.rem_euclid(8).cast_unsigned() + u32::from(n) + 7) / 8
 }
 
 impl Window {
