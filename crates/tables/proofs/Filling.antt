@@ -1,7 +1,7 @@
 -- Filling a slot of a chunk table. Assumes nothing.
 use Rattle.std.proofs.Common.{◌≡◌, ℕ, ◌+◌, ◌*◌, ◌<◌, true, false, cond, eqb, ◌≢◌, List, length, get_or, set, replicate, Some, None, Ok, Err, Option, sym, refl, ap, ◌∙◌, subst, arith, get_or-set_other, get_or-set_same, below_more}
 use lib.ListN.{get_or-replicate}
-use Rattle.std.proofs.lemmas.Bool.{cond_both, cond-false, cond-true, eq-eqb, eqb-false, eqb-true, false≢true}
+use Rattle.std.proofs.lemmas.Bool.{both_ways, cond_both, cond-false, cond-true, eq-eqb, eqb-false, eqb-true, false≢true}
 use Rattle.grid.specs.declared.cell.Cell.{Cell}
 use Rattle.grid.specs.declared.chunk.Chunk.{Chunk}
 use Rattle.grid.specs.Meanings.{Answer, Meaning}
@@ -141,3 +141,7 @@ unmarked (Ok n) h e =
     (λ _ f. cc)
     e
 unmarked (Err b) h e = let z : ◌≡◌ {A = ℕ} 0 1 = cc in absurd (omega arith)
+
+-- a table that holds nothing has no wrong number
+pub right_empty : (t : Table) (m : Meaning) → ((k : Chunk) → holds t k ≡ false) → Right t m
+right_empty t m none c there = absurd (both_ways (holds t (chunk_of c)) (none (chunk_of c)) there)

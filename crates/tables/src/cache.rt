@@ -62,6 +62,7 @@ impl<F: Field> Cache<F> {
     }
 
     // Empties the table.
+    #[tactic(auto, using(crate::proofs::Filling::right_empty))]
     pub fn clear(&mut self)
         ensures field { below_of self.new ≡ below_of self.old }
         ensures empty { (k : Chunk) → holds (table_of self.new) k ≡ false }
