@@ -6,7 +6,7 @@
 use Rattle.std.specs.Prelude.{ℕ, ◌≡◌, cond, ◌&&◌, List, [], ◌∷◌, map, ℤ, pos, negsuc, replicate}
 use Rattle.grid.specs.declared.cell.Cell.{Cell}
 use Rattle.grid.specs.Piles.{square}
-use Rattle.grid.specs.Places.{eq_z}
+use Rattle.std.specs.Ordering.{int_eq}
 use Rattle.grounds.specs.Splitmix.{output}
 use Rattle.rules.specs.Roads.{roaded}
 use Rattle.rules.specs.Settlements.{settled}
@@ -24,7 +24,7 @@ spot x y h = record { cell = at x y; height = h }
 
 abbrev pub only : List Spot → Cell → ℕ
 only [] c = 0
-only (s ∷ ss) c = cond (eq_z s.cell.x c.x && eq_z s.cell.y c.y) s.height (only ss c)
+only (s ∷ ss) c = cond (int_eq s.cell.x c.x && int_eq s.cell.y c.y) s.height (only ss c)
 
 abbrev pub around : ℕ → List Spot → Cell → List ℕ
 around r ss c = map (only ss) (square r c)

@@ -2,12 +2,13 @@
 use Rattle.std.proofs.Common.{◌≡◌, ℕ, ◌+◌, ◌-◌, ◌*◌, ◌/◌, ◌%◌, ◌<◌, ◌≤◌, true, ℤ, pos, negsuc, ◌+ℤ◌, ◌*ℤ◌, sym, refl, ap, ◌∙◌, arith}
 use Rattle.std.proofs.lemmas.Nat.{div-add-mod', div_below, div-mul-add, mod_below, mod-mul-add, mul-add-lt, mul-le}
 use Rattle.std.proofs.lemmas.Int.{ints}
-use Rattle.std.proofs.lemmas.Bool.{and_from, and_parts, eq-eqb, eqb-true, false≢true}
+use Rattle.std.proofs.lemmas.Bool.{and_from, and_parts}
+use Rattle.std.proofs.lemmas.Bool.Decides.{Decides-int_eq}
 use Rattle.grid.specs.declared.cell.Cell.{Cell}
 use Rattle.grid.specs.declared.chunk.Chunk.{Chunk}
 use Rattle.grid.specs.declared.window.Window.{Window}
 use Rattle.grid.specs.Counts.{Counts}
-use Rattle.grid.specs.Places.{EightFrom, cell_in, chunk_of, eighth, eq_z, place_of, rest, same_chunk, slot_of}
+use Rattle.grid.specs.Places.{EightFrom, cell_in, chunk_of, eighth, place_of, rest, same_chunk, slot_of}
 use Rattle.grid.specs.Windows.{Touches, cell_of, corner_of, height_of, width_of}
 use Rattle.grid.proofs.Counting.{at_most, counts_numbered}
 
@@ -32,39 +33,17 @@ eighth_east z i =
 abbrev pub span : ℤ → ℕ → ℕ
 span z n = (rest z + n + 7) / 8
 
-in_span : (z : ℤ) (n i : ℕ) → i < n → (rest z + i) / 8 < span z n
-in_span z n i h = omega arith
-
 -- the first of the numbers that lies in the a-th of them
 reached : (z : ℤ) (n a : ℕ) → 1 ≤ n → a < span z n → (i : ℕ) × (i < n) × ((rest z + i) / 8 ≡ a)
 reached z n a some h = let r = rest_lt z in (8 * a - rest z, omega arith, omega arith)
-
-pub cell_eq : {a b c d : ℤ} → a ≡ b → c ≡ d → ◌≡◌ {A = Cell} (record { x = a; y = c }) (record { x = b; y = d })
-cell_eq e f = cc
-
-pub chunk_eq : {a b c d : ℤ} → a ≡ b → c ≡ d → ◌≡◌ {A = Chunk} (record { x = a; y = c }) (record { x = b; y = d })
-chunk_eq e f = cc
-
-apart : (z : ℤ) (a b : ℕ) → z +ℤ pos a ≡ z +ℤ pos b → a ≡ b
-apart z a b e = omega (arith, ints)
-
-few_along : (z : ℤ) (n : ℕ) → n ≤ 57 → span z n ≤ 8
-few_along z n h = let r = rest_lt z in omega arith
-
-eight_apart : (q : ℤ) (i j : ℕ) → i < 8 → j < 8 → rest (q +ℤ pos i) ≡ rest (q +ℤ pos j) → i ≡ j
-eight_apart q i j hi hj same =
-    let a = parts (q +ℤ pos i) in
-    let b = parts (q +ℤ pos j) in
-    omega (arith, ints)
 
 -- 57 numbers in a row lie in at most 8 chunks of a line, of which no two leave the same rest
 close : (z : ℤ) (i j n : ℕ) → n ≤ 57 → i < n → j < n → rest (eighth (z +ℤ pos i)) ≡ rest (eighth (z +ℤ pos j)) → eighth (z +ℤ pos i) ≡ eighth (z +ℤ pos j)
 close z i j n few hi hj same =
     let r = rest_lt z in
-    let a = eighth_east z i in
-    let b = eighth_east z j in
-    let one = eight_apart (eighth z) ((rest z + i) / 8) ((rest z + j) / 8) (omega arith) (omega arith) (ap rest (sym a) ∙ same ∙ ap rest b) in
-    a ∙ ap (λ (n : ℕ). eighth z +ℤ pos n) one ∙ sym b
+    let a = parts (eighth (z +ℤ pos i)) in
+    let b = parts (eighth (z +ℤ pos j)) in
+    omega (arith, ints, eighth_east z i, eighth_east z j)
 
 slot_rests : (j k : Chunk) → slot_of j ≡ slot_of k → (rest j.x ≡ rest k.x) × (rest j.y ≡ rest k.y)
 slot_rests j k same =
@@ -91,29 +70,29 @@ module _ (v : Window) where
   some_columns = let w = v.wide.0 in omega arith
 
   chunk_of_cell : (i j : ℕ) → chunk_of (cell_of v i j) ≡ chunk_at ((rest (corner_of v).x + i) / 8) ((rest (corner_of v).y + j) / 8)
-  chunk_of_cell i j = chunk_eq (eighth_east (corner_of v).x i) (eighth_east (corner_of v).y j)
+  chunk_of_cell i j = cc (eighth_east (corner_of v).x i, eighth_east (corner_of v).y j)
 
   differ : (p q : ℕ) → p < rows * columns → q < rows * columns → nth_chunk p ≡ nth_chunk q → p ≡ q
   differ p q _ _ e =
-      let a : p % columns ≡ q % columns = apart (eighth (corner_of v).x) _ _ (ap (λ (k : Chunk). k.x) e) in
-      let b : p / columns ≡ q / columns = apart (eighth (corner_of v).y) _ _ (ap (λ (k : Chunk). k.y) e) in
-      sym (div-add-mod' p columns) ∙ (λ i. b i * columns + a i) ∙ div-add-mod' q columns
+      let a : p % columns ≡ q % columns = omega (arith, ints, ap (λ (k : Chunk). k.x) e) in
+      let b : p / columns ≡ q / columns = omega (arith, ints, ap (λ (k : Chunk). k.y) e) in
+      cc (div-add-mod' p columns, div-add-mod' q columns)
 
   touched : (p : ℕ) → p < rows * columns → Touches v (nth_chunk p)
   touched p h =
-      let i = reached (corner_of v).x (width_of v) (p % columns) v.wide.0 (mod_below p columns some_columns) in
-      let j = reached (corner_of v).y (height_of v) (p / columns) v.high.0 (div_below p columns rows some_columns h) in
-      (i.0, j.0, i.1, j.1, chunk_of_cell i.0 j.0 ∙ (λ t. chunk_at (i.2 t) (j.2 t)))
+      let (i, west, column) = reached (corner_of v).x (width_of v) (p % columns) v.wide.0 (mod_below p columns some_columns) in
+      let (j, north, row) = reached (corner_of v).y (height_of v) (p / columns) v.high.0 (div_below p columns rows some_columns h) in
+      (i, j, west, north, chunk_of_cell i j ∙ (λ t. chunk_at (column t) (row t)))
 
   found : (k : Chunk) → Touches v k → (p : ℕ) × (p < rows * columns) × (nth_chunk p ≡ k)
   found k (i, j, west, north, lies) =
-      let a = in_span (corner_of v).x (width_of v) i west in
-      let b = in_span (corner_of v).y (height_of v) j north in
       let column = (rest (corner_of v).x + i) / 8 in
-      let row = (rest (corner_of v).y + j) / 8 in (
+      let row = (rest (corner_of v).y + j) / 8 in
+      let a : column < columns = omega arith in
+      let b : row < rows = omega arith in (
         row * columns + column,
         omega (arith, mul-add-lt row columns column rows b a),
-        (λ t. chunk_at (mod-mul-add row columns column a t) (div-mul-add row columns column a t)) ∙ sym (chunk_of_cell i j) ∙ lies,
+        rw (mod-mul-add row columns column a, div-mul-add row columns column a) (sym (chunk_of_cell i j) ∙ lies),
       )
 
   pub counts_chunks : Counts (rows * columns) (Touches v)
@@ -125,8 +104,8 @@ module _ (v : Window) where
   few_chunks n P touches c =
       let all = counts_chunks in
       let least = at_most c.list all.list c.once (λ k a. all.all k (touches k (c.only k a))) in
-      let a = few_along (corner_of v).y (height_of v) v.high.1 in
-      let b = few_along (corner_of v).x (width_of v) v.wide.1 in
+      let a : rows ≤ 8 = omega (arith, rest_lt (corner_of v).y, v.high.1) in
+      let b : columns ≤ 8 = omega (arith, rest_lt (corner_of v).x, v.wide.1) in
       omega (arith, least, c.size, all.size, mul-le rows columns 8 8 a b)
 
   -- two chunks of one window with one slot are one
@@ -135,19 +114,7 @@ module _ (v : Window) where
       let rests = slot_rests (chunk_of (cell_of v a b)) (chunk_of (cell_of v c d)) (ap slot_of j-is ∙ same ∙ sym (ap slot_of k-is)) in
       let x = close (corner_of v).x a c (width_of v) v.wide.1 a_in c-in rests.0 in
       let y = close (corner_of v).y b d (height_of v) v.high.1 b-in d-in rests.1 in
-      sym j-is ∙ chunk_eq x y ∙ k-is
-
--- the column and the row of a place, which counts to 63 and then again
-pub places : (p : ℕ) → (p % 8 ≡ p % 64 % 8) × (p / 8 % 8 ≡ p % 64 / 8)
-places p =
-    let row = p % 64 / 8 in
-    let column = p % 64 % 8 in
-    let whole : p ≡ (p / 64 * 8 + row) * 8 + column = omega arith in
-    let few : column < 8 = omega arith in
-    let low : row < 8 = omega arith in (
-      ap (λ (k : ℕ). k % 8) whole ∙ mod-mul-add (p / 64 * 8 + row) 8 column few,
-      ap (λ (k : ℕ). k / 8 % 8) whole ∙ ap (λ (k : ℕ). k % 8) (div-mul-add (p / 64 * 8 + row) 8 column few) ∙ mod-mul-add (p / 64) 8 row low,
-    )
+      cc
 
 -- ---- the 64 cells of a chunk
 
@@ -167,7 +134,7 @@ pub slot_lt : (k : Chunk) → slot_of k < 64
 slot_lt k = omega (arith, rest_lt k.x, rest_lt k.y)
 
 pub chunk_cell_in : (k : Chunk) (p : ℕ) → p < 64 → chunk_of (cell_in k p) ≡ k
-chunk_cell_in k p h = chunk_eq (eighth_of k.x (p % 8) (omega arith)) (eighth_of k.y (p / 8) (omega arith))
+chunk_cell_in k p h = λ t. record { x = eighth_of k.x (p % 8) (omega arith) t; y = eighth_of k.y (p / 8) (omega arith) t }
 
 pub place_cell_in : (k : Chunk) (p : ℕ) → p < 64 → place_of (cell_in k p) ≡ p
 place_cell_in k p h = omega (arith, rest_of k.x (p % 8) (omega arith), rest_of k.y (p / 8) (omega arith))
@@ -175,29 +142,14 @@ place_cell_in k p h = omega (arith, rest_of k.x (p % 8) (omega arith), rest_of k
 pub cell_in_place : (c : Cell) → cell_in (chunk_of c) (place_of c) ≡ c
 cell_in_place c =
     let a = rest_lt c.x in
-    let b = rest_lt c.y in
-    let column : place_of c % 8 ≡ rest c.x = omega arith in
-    let row : place_of c / 8 ≡ rest c.y = omega arith in
-    cell_eq
-    (ap (λ (i : ℕ). (pos 8 *ℤ eighth c.x) +ℤ pos i) column ∙ parts c.x)
-    (ap (λ (i : ℕ). (pos 8 *ℤ eighth c.y) +ℤ pos i) row ∙ parts c.y)
+    let x : (cell_in (chunk_of c) (place_of c)).x ≡ c.x = omega (arith, ints, parts c.x) in
+    let y : (cell_in (chunk_of c) (place_of c)).y ≡ c.y = omega (arith, ints, parts c.y) in
+    λ t. record { x = x t; y = y t }
 
 -- ---- addresses
 
-eq_z_true : (a b : ℤ) → eq_z a b ≡ true → a ≡ b
-eq_z_true (pos a) (pos b) h = ap pos (eqb-true a b h)
-eq_z_true (pos a) (negsuc b) h = absurd (false≢true h)
-eq_z_true (negsuc a) (pos b) h = absurd (false≢true h)
-eq_z_true (negsuc a) (negsuc b) h = ap negsuc (eqb-true a b h)
-
-eq_z_refl : (a : ℤ) → eq_z a a ≡ true
-eq_z_refl (pos a) = eq-eqb a a refl
-eq_z_refl (negsuc a) = eq-eqb a a refl
-
 pub same_chunk_true : (j k : Chunk) → same_chunk j k ≡ true → j ≡ k
-same_chunk_true j k h =
-    let p = and_parts (eq_z j.x k.x) (eq_z j.y k.y) h in
-    chunk_eq (eq_z_true j.x k.x p.0) (eq_z_true j.y k.y p.1)
+same_chunk_true j k h = let p = and_parts _ _ h in λ t. record { x = (Decides-int_eq j.x k.x).0 p.0 t; y = (Decides-int_eq j.y k.y).0 p.1 t }
 
 pub same_chunk_refl : (k : Chunk) → same_chunk k k ≡ true
-same_chunk_refl k = and_from (eq_z k.x k.x) (eq_z k.y k.y) (eq_z_refl k.x) (eq_z_refl k.y)
+same_chunk_refl k = and_from _ _ ((Decides-int_eq k.x k.x).1 refl) ((Decides-int_eq k.y k.y).1 refl)

@@ -1,6 +1,7 @@
 -- A step over what a field may mean is again what a field may mean. Assumes nothing.
-use Rattle.std.proofs.Common.{◌≡◌, ℕ, suc, Bool, true, false, cond, List, [], ◌∷◌, length, Ok, Err, Result, sym, refl, ap, ◌∙◌, subst, arith}
-use Rattle.std.specs.List.{AllByRecursion}
+use Rattle.std.proofs.Common.{◌≡◌, ℕ, suc, Bool, true, false, cond, List, [], ◌∷◌, length, Ok, Err, Result, refl, ap, ◌∙◌, subst}
+use Rattle.std.specs.List.{All}
+use Rattle.std.proofs.lemmas.List.Elements.{All-cons, All-nil}
 use Rattle.std.proofs.lemmas.List.FromFn.{length-map-range_with_len}
 use Rattle.grid.specs.declared.blank.Blank.{Blank}
 use Rattle.grid.specs.declared.cell.Cell.{Cell}
@@ -12,16 +13,16 @@ use Rattle.grid.specs.Places.{inside}
 
 before_whole : (a : Answer) (r : Result (List ℕ) Blank) (hs : List ℕ) → before a r ≡ Ok hs → (h : ℕ) × (ts : List ℕ) × (a ≡ Ok h) × (r ≡ Ok ts) × (hs ≡ h ∷ ts)
 before_whole (Ok h) (Ok ts) hs e = (h, ts, refl, refl, cc)
-before_whole (Ok h) (Err b) hs e = let z : ◌≡◌ {A = ℕ} 0 1 = cc in absurd (omega arith)
-before_whole (Err b) r hs e = let z : ◌≡◌ {A = ℕ} 0 1 = cc in absurd (omega arith)
+before_whole (Ok h) (Err b) hs e = absurd cc
+before_whole (Err b) r hs e = absurd cc
 
-survey_whole : (m : Meaning) → Lawful m → (cs : List Cell) (hs : List ℕ) → survey m cs ≡ Ok hs → (length hs ≡ length cs) × AllByRecursion Height hs
+survey_whole : (m : Meaning) → Lawful m → (cs : List Cell) (hs : List ℕ) → survey m cs ≡ Ok hs → (length hs ≡ length cs) × All Height hs
 unfolding survey
-survey_whole m law [] hs e = let n : [] ≡ hs = cc in rw (sym n) (refl, tt)
+survey_whole m law [] hs e = let n : hs ≡ [] = cc in rw n (refl, All-nil Height)
 survey_whole m law (c ∷ cs) hs e =
     let p = before_whole (m c) (survey m cs) hs e in
     let q = survey_whole m law cs p.1 p.3 in
-    rw p.4 (ap suc q.0, (law.heights c p.0 p.2, q.1))
+    rw p.4 (ap suc q.0, All-cons Height p.0 p.1 (law.heights c p.0 p.2) q.1)
 
 pub square_length : (r : ℕ) (c : Cell) → length (square r c) ≡ area r
 unfolding square
@@ -36,8 +37,8 @@ step_beyond s m c e = rw e
 module _ (s : Stencil) (m : Meaning) (c : Cell) where
   step_cases : (b : Bool) (r : Result (List ℕ) Blank) → ((hs : List ℕ) → r ≡ Ok hs → Height (s.value hs)) → (h : ℕ) → cond b (ruled s.value r) (Err (own_blank c)) ≡ Ok h → Height h
   step_cases true (Ok hs) kept h e = let same : s.value hs ≡ h = cc in subst Height same (kept hs refl)
-  step_cases true (Err b) kept h e = let z : ◌≡◌ {A = ℕ} 0 1 = cc in omega arith
-  step_cases false r kept h e = let z : ◌≡◌ {A = ℕ} 0 1 = cc in omega arith
+  step_cases true (Err b) kept h e = absurd cc
+  step_cases false r kept h e = absurd cc
 
   step_height : Fit s → Lawful m → (h : ℕ) → step s m c ≡ Ok h → Height h
   unfolding step

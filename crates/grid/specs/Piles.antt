@@ -11,8 +11,8 @@
 --     Agree n g h c       two meanings are the same at every cell within a distance of n from c
 --     Locality            grounds that agree within the margin of a cell are carried to the same answer there
 --     Squares             a square is exactly the cells within its radius, each once, in reading order
-use Rattle.std.specs.Prelude.{◌≡◌, ℕ, ◌+◌, ◌*◌, ◌/◌, ◌%◌, ◌<◌, ◌≤◌, cond, List, [], ◌∷◌, map, length, pos, ◌-ℤ◌, Ok, Err, Result, slice_index_or}
-use Rattle.std.specs.List.{range_with_len, AllByRecursion}
+use Rattle.std.specs.Prelude.{◌≡◌, ℕ, ◌+◌, ◌*◌, ◌/◌, ◌%◌, ◌≤◌, cond, List, [], ◌∷◌, map, length, pos, ◌-ℤ◌, Ok, Err, Result}
+use Rattle.std.specs.List.{range_with_len, All, AllPairs}
 use Rattle.grid.specs.declared.blank.Blank.{Blank}
 use Rattle.grid.specs.declared.cell.Cell.{Cell}
 use Rattle.grid.specs.Counts.{Among, Once}
@@ -36,7 +36,7 @@ square r c = map (nth_cell (side r) (north_west r c)) (range_with_len 0 (area r)
 
 pub record Whole (r : ℕ) (hs : List ℕ) : Type 0 where
   pub size : length hs ≡ area r
-  pub heights : AllByRecursion Height hs
+  pub heights : All Height hs
 
 pub record Stencil : Type 0 where
   pub radius : ℕ
@@ -82,7 +82,7 @@ pub record Neighbourhood (r : ℕ) (c : Cell) (cs : List Cell) : Type 0 where
   pub within : (d : Cell) → Among cs d → distance c d ≤ r
   pub all : (d : Cell) → distance c d ≤ r → Among cs d
   pub once : Once cs
-  pub ordered : (i j : ℕ) (d : Cell) → i < j → j < length cs → Before (slice_index_or cs i d) (slice_index_or cs j d)
+  pub ordered : AllPairs Before cs
 
 abbrev pub Squares : Type 0
 Squares = (r : ℕ) (c : Cell) → Neighbourhood r c (square r c)

@@ -11,7 +11,8 @@
 --     same_chunk j k   whether two addresses are one
 --     cell_at c i j    the cell i columns east and j rows south of c
 --     Side n           a width or a height that a window may have
-use Rattle.std.specs.Prelude.{◌≡◌, ℕ, ◌+◌, ◌-◌, ◌*◌, ◌/◌, ◌%◌, ◌≤◌, max, Bool, false, ◌&&◌, ◌⊎◌, ℤ, pos, negsuc, ◌+ℤ◌, ◌-ℤ◌, ◌*ℤ◌, ◌≤ℤ◌, ◌<ℤ◌, ◌==◌, nat_le, unsigned_abs}
+use Rattle.std.specs.Prelude.{◌≡◌, ℕ, ◌+◌, ◌-◌, ◌*◌, ◌/◌, ◌%◌, ◌≤◌, max, Bool, ◌&&◌, ◌⊎◌, ℤ, pos, negsuc, ◌+ℤ◌, ◌-ℤ◌, ◌*ℤ◌, ◌≤ℤ◌, ◌<ℤ◌, nat_le, unsigned_abs}
+use Rattle.std.specs.Ordering.{int_eq}
 use Rattle.grid.specs.declared.cell.Cell.{Cell}
 use Rattle.grid.specs.declared.chunk.Chunk.{Chunk}
 
@@ -35,12 +36,6 @@ abbrev pub rest : ℤ → ℕ
 rest (pos n) = n % 8
 rest (negsuc n) = 7 - n % 8
 
-abbrev pub eq_z : ℤ → ℤ → Bool
-eq_z (pos m) (pos n) = m == n
-eq_z (pos m) (negsuc n) = false
-eq_z (negsuc m) (pos n) = false
-eq_z (negsuc m) (negsuc n) = m == n
-
 abbrev pub chunk_of : Cell → Chunk
 chunk_of c = record { x = eighth c.x; y = eighth c.y }
 
@@ -61,7 +56,7 @@ abbrev pub cell_in : Chunk → ℕ → Cell
 cell_in k p = record { x = (pos 8 *ℤ k.x) +ℤ pos (p % 8); y = (pos 8 *ℤ k.y) +ℤ pos (p / 8) }
 
 abbrev pub same_chunk : Chunk → Chunk → Bool
-same_chunk j k = eq_z j.x k.x && eq_z j.y k.y
+same_chunk j k = int_eq j.x k.x && int_eq j.y k.y
 
 abbrev pub cell_at : Cell → ℕ → ℕ → Cell
 cell_at c i j = record { x = c.x +ℤ pos i; y = c.y +ℤ pos j }

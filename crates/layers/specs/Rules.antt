@@ -3,7 +3,8 @@
 --     smoothing_fit       it is what every rule has to be
 use Rattle.std.specs.Prelude.{ℕ, ◌*◌, ◌/◌, ◌≤◌, List, [], ◌∷◌, map, sum_by}
 use Rattle.std.proofs.Common.{arith}
-use Rattle.std.specs.List.{AllByRecursion, zip}
+use Rattle.std.specs.List.{All, zip}
+use Rattle.std.proofs.lemmas.List.Elements.{All-head, All-tail}
 use Rattle.std.proofs.lemmas.List.Sums.{sum_by-cons}
 use Rattle.std.proofs.lemmas.Nat.{mul-le}
 use Rattle.grid.specs.Piles.{Fit, Stencil}
@@ -22,10 +23,10 @@ abbrev pub smoothing : Stencil
 smoothing = record { radius = 1; value = λ hs. weighed weights hs / 16 }
 
 -- a sum of numbers by their weights is at most the sum of the weights times a number that none exceeds
-pub weighed_most : (m : ℕ) (ws hs : List ℕ) → AllByRecursion (λ h. h ≤ m) hs → weighed ws hs ≤ weighed ws (map (λ _. m) ws)
+pub weighed_most : (m : ℕ) (ws hs : List ℕ) → All (λ h. h ≤ m) hs → weighed ws hs ≤ weighed ws (map (λ _. m) ws)
 weighed_most m [] hs a = omega arith
 weighed_most m (w ∷ ws) [] a = omega arith
-weighed_most m (w ∷ ws) (h ∷ hs) (p, a) = simp sum_by-cons (omega (arith, mul-le w h w m (omega arith) p, weighed_most m ws hs a))
+weighed_most m (w ∷ ws) (h ∷ hs) a = simp sum_by-cons (omega (arith, mul-le w h w m (omega arith) (All-head (λ h. h ≤ m) h hs a), weighed_most m ws hs (All-tail (λ h. h ≤ m) h hs a)))
 
 pub smoothing_fit : Fit smoothing
 smoothing_fit = record { near = omega arith; height = λ hs w. let m : weighed weights hs ≤ 16 * 65534 = weighed_most 65534 weights hs w.heights in omega arith }

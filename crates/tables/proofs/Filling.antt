@@ -1,7 +1,9 @@
 -- Filling a slot of a chunk table. Assumes nothing.
-use Rattle.std.proofs.Common.{◌≡◌, ℕ, ◌+◌, ◌*◌, ◌<◌, true, false, cond, eqb, ◌≢◌, List, length, get_or, set, replicate, Some, None, Ok, Err, Option, sym, refl, ap, ◌∙◌, subst, arith, get_or-set_other, get_or-set_same, below_more}
+use Rattle.std.proofs.Common.{◌≡◌, ℕ, ◌+◌, ◌*◌, ◌%◌, ◌<◌, ◌≤◌, true, false, cond, eqb, ◌≢◌, List, length, get_or, set, replicate, Some, None, Ok, Err, Option, sym, refl, ap, ◌∙◌, subst, arith, get_or-set_other, below_more}
 use lib.ListN.{get_or-replicate}
-use Rattle.std.proofs.lemmas.Bool.{cond_both, cond-false, cond-true, eq-eqb, eqb-false, eqb-true, false≢true}
+use Rattle.std.proofs.lemmas.Bool.Decides.{nat_tests}
+use Rattle.std.proofs.lemmas.Grind.{get_or-set_at}
+use Rattle.std.proofs.lemmas.Bool.{both_ways, false≢true}
 use Rattle.grid.specs.declared.cell.Cell.{Cell}
 use Rattle.grid.specs.declared.chunk.Chunk.{Chunk}
 use Rattle.grid.specs.Meanings.{Answer, Meaning}
@@ -12,24 +14,12 @@ use Rattle.tables.specs.Tables.{Right, height_of, holding, holds, index_of, is_c
 
 -- ---- addresses
 
-pub none_there : (i n : ℕ) (k : Chunk) → i < n → is_chunk (get_or (replicate n None) i None) k ≡ false
-none_there i n k h = ap (λ (o : Option Chunk). is_chunk o k) (get_or-replicate n i None None h)
+pub none_there : (k : Chunk) → is_chunk (get_or (replicate 64 None) (slot_of k) None) k ≡ false
+none_there k = ap (λ (o : Option Chunk). is_chunk o k) (get_or-replicate 64 (slot_of k) None None (slot_lt k))
 
 -- a slot was given an address
 pub labelled : (ss : List (Option Chunk)) (s : ℕ) (k j : Chunk) → length ss ≡ 64 → s ≡ slot_of k → is_chunk (get_or (set ss s (Some k)) (slot_of j) None) j ≡ cond (eqb (slot_of j) (slot_of k)) (same_chunk k j) (is_chunk (get_or ss (slot_of j) None) j)
-labelled ss s k j len e =
-    cond_both (eqb (slot_of j) (slot_of k)) (same_chunk k j) (is_chunk (get_or ss (slot_of j) None) j)
-    (λ b. is_chunk (get_or (set ss s (Some k)) (slot_of j) None) j ≡ b)
-    (λ t.
-    let q = eqb-true (slot_of j) (slot_of k) t in
-    let lt = slot_lt k in
-    let at : s ≡ slot_of j = omega arith in
-    let within : s < length ss = omega arith in
-    ap (λ (o : Option Chunk). is_chunk o j) (ap (λ (i : ℕ). get_or (set ss s (Some k)) i None) (sym at) ∙ get_or-set_same ss s (Some k) None within))
-    (λ f.
-    let q = eqb-false (slot_of j) (slot_of k) f in
-    let other : slot_of j ≢ s = λ h. q (h ∙ e) in
-    ap (λ (o : Option Chunk). is_chunk o j) (get_or-set_other ss s (slot_of j) (Some k) None other))
+labelled ss s k j len e = grind (arith, nat_tests, get_or-set_at, get_or-set_other {A = Option Chunk}, slot_lt k)
 
 is_chunk_only : (o : Option Chunk) (k j : Chunk) → is_chunk o k ≡ true → is_chunk o j ≡ same_chunk k j
 is_chunk_only (Some i) k j h = ap (λ (l : Chunk). same_chunk l j) (same_chunk_true i k h)
@@ -37,17 +27,14 @@ is_chunk_only None k j h = absurd (false≢true h)
 
 -- where k is held already, to make it held changes nothing
 pub held_already : (t : Table) (k j : Chunk) → holds t k ≡ true → holds t j ≡ holding k (holds t) j
-held_already t k j h =
-    cond_both (eqb (slot_of j) (slot_of k)) (same_chunk k j) (holds t j) (λ b. holds t j ≡ b)
-    (λ e. ap (λ (i : ℕ). is_chunk (get_or t.chunks i None) j) (eqb-true (slot_of j) (slot_of k) e) ∙ is_chunk_only (get_or t.chunks (slot_of k) None) k j h)
-    (λ _. refl)
+held_already t k j h = grind (arith, nat_tests, is_chunk_only (get_or t.chunks (slot_of k) None) k j h)
 
 -- the chunks of t' are those of t once k is held
 abbrev pub Holding : Chunk → Table → Table → Type 0
 Holding k t t' = (j : Chunk) → holds t' j ≡ holding k (holds t) j
 
-pub now_held : (k : Chunk) (t t' : Table) → Holding k t t' → holds t' k ≡ true
-now_held k t t' h = h k ∙ cond-true (eqb (slot_of k) (slot_of k)) (same_chunk k k) (holds t k) (eq-eqb (slot_of k) (slot_of k) refl) ∙ same_chunk_refl k
+now_held : (k : Chunk) (t t' : Table) → Holding k t t' → holds t' k ≡ true
+now_held k t t' h = grind (arith, nat_tests, h k, same_chunk_refl k)
 
 -- ---- numbers
 
@@ -66,33 +53,30 @@ Put c h t t' = (stored t' c ≡ h) × ((d : Cell) → (index_of d ≡ index_of c
 pub index_lt : (c : Cell) → index_of c < 4096
 index_lt c = let s = slot_lt (chunk_of c) in let p = place_lt c in omega arith
 
+pub unwritten : (c : Cell) → ◌≡◌ {A = ℕ} (get_or (replicate 4096 65535) (index_of c) 0) 65535
+unwritten c = get_or-replicate 4096 (index_of c) 65535 0 (index_lt c)
+
 index_cell_in : (k : Chunk) (p : ℕ) → p < 64 → index_of (cell_in k p) ≡ 64 * slot_of k + p
-index_cell_in k p h =
-    let e : slot_of (chunk_of (cell_in k p)) ≡ slot_of k = ap slot_of (chunk_cell_in k p h) in
-    let f = place_cell_in k p h in
-    omega arith
+index_cell_in k p h = omega (arith, place_cell_in k p h, ap slot_of (chunk_cell_in k p h))
+
+-- the number that a turn of the loop puts
+pub puts : (k : Chunk) (p h : ℕ) (d : Cell) (t t' : Table) → p < 64 → d ≡ cell_in k (p % 64) → Put d h t t' → Put (cell_in k p) h t t'
+puts k p h d t t' lt e = let whole : p % 64 ≡ p = omega arith in subst (λ (c : Cell). Put c h t t') (e ∙ ap (cell_in k) whole)
 
 pub filled_more : (m : Meaning) (k : Chunk) (p h : ℕ) (t t' : Table) → p < 64 → Put (cell_in k p) h t t' → h ≡ mark (m (cell_in k p)) → Filled m k p t → Filled m k (p + 1) t'
 filled_more m k p h t t' lt put is before =
-    below_more (λ q. stored t' (cell_in k q) ≡ mark (m (cell_in k q))) p
-    (λ q below.
-    let i = index_cell_in k p lt in
-    let j = index_cell_in k q (omega arith) in
-    put.1 (cell_in k q) (λ same. omega arith) ∙ before q below)
-    (put.0 ∙ is)
+    below_more _ p (λ q below. put.1 (cell_in k q) (λ same. omega (arith, index_cell_in k p lt, index_cell_in k q (omega arith))) ∙ before q below) (put.0 ∙ is)
 
 pub kept_more : (k : Chunk) (p h : ℕ) (t₀ t t' : Table) → p < 64 → Put (cell_in k p) h t t' → Kept k t₀ t → Kept k t₀ t'
 kept_more k p h t₀ t t' lt put before c apart =
-    let i = index_cell_in k p lt in
-    let b = place_lt c in
     let other : slot_of (chunk_of c) ≢ slot_of k = apart in
-    put.1 c (λ same. omega arith) ∙ before c apart
+    put.1 c (λ same. omega (arith, index_cell_in k p lt, place_lt c)) ∙ before c apart
 
 -- the 64 cells of k are all that lie in k
-pub filled_all : (m : Meaning) (k : Chunk) (t : Table) → Filled m k 64 t → (c : Cell) → chunk_of c ≡ k → stored t c ≡ mark (m c)
-filled_all m k t all c e =
-    let there : cell_in k (place_of c) ≡ c = ap (λ (j : Chunk). cell_in j (place_of c)) (sym e) ∙ cell_in_place c in
-    subst (λ (d : Cell). stored t d ≡ mark (m d)) there (all (place_of c) (place_lt c))
+filled_all : (m : Meaning) (k : Chunk) (n : ℕ) (t : Table) → 64 ≤ n → Filled m k n t → (c : Cell) → chunk_of c ≡ k → stored t c ≡ mark (m c)
+filled_all m k n t whole all c e =
+    let there : cell_in k (place_of c) ≡ c = rw (← e) (cell_in_place c) in
+    subst (λ (d : Cell). stored t d ≡ mark (m d)) there (all (place_of c) (omega (arith, place_lt c)))
 
 -- the chunks of t' are those of t but for the slot of k
 abbrev pub Sparing : Chunk → Table → Table → Type 0
@@ -100,11 +84,11 @@ Sparing k t t' = (j : Chunk) → holds t' j ≡ sparing k (holds t) j
 
 -- what is held is not in an emptied slot, and was held before
 spared : (k : Chunk) (t t' : Table) (j : Chunk) → Sparing k t t' → holds t' j ≡ true → (slot_of j ≢ slot_of k) × (holds t j ≡ true)
-spared k t t' j v h =
-    cond_both (eqb (slot_of j) (slot_of k)) false (holds t j) (λ b. b ≡ true → (slot_of j ≢ slot_of k) × (holds t j ≡ true))
-    (λ _ f. absurd (false≢true f))
-    (λ e s. (eqb-false (slot_of j) (slot_of k) e, s))
-    (sym (v j) ∙ h)
+spared k t t' j v h = grind (arith, nat_tests, v j)
+
+-- a table that holds nothing has no wrong number
+pub right_empty : (t : Table) (m : Meaning) → ((k : Chunk) → holds t k ≡ false) → Right t m
+right_empty t m none c there = absurd (both_ways (holds t (chunk_of c)) (none (chunk_of c)) there)
 
 -- a table with an emptied slot is right
 pub right_spared : (m : Meaning) (k : Chunk) (t t' : Table) → Sparing k t t' → ((c : Cell) → stored t' c ≡ stored t c) → Right t m → Right t' m
@@ -113,31 +97,20 @@ right_spared m k t t' v same right c h = same c ∙ right c (spared k t t' (chun
 -- where its slot is empty, a number of k leaves a table right
 pub right_put : (m : Meaning) (k : Chunk) (p h : ℕ) (s t t' : Table) → p < 64 → Put (cell_in k p) h t t' → Sparing k s t → ((j : Chunk) → holds t' j ≡ holds t j) → Right t m → Right t' m
 right_put m k p h s t t' lt put v held right c there =
-    let before : holds t (chunk_of c) ≡ true = sym (held (chunk_of c)) ∙ there in
+    let before = sym (held (chunk_of c)) ∙ there in
     kept_more k p h t t t' lt put (λ _ _. refl) c (spared k s t (chunk_of c) v before).0 ∙ right c before
 
--- to hold k in its emptied slot is to hold it in its slot
-pub held_in_place : (k : Chunk) (t t' t'' : Table) → Sparing k t t' → Holding k t' t'' → Holding k t t''
-held_in_place k t t' t'' v h j =
-    h j ∙ cond_both (eqb (slot_of j) (slot_of k)) (same_chunk k j) (holds t' j) (λ b. b ≡ holding k (holds t) j)
-    (λ e. sym (cond-true (eqb (slot_of j) (slot_of k)) (same_chunk k j) (holds t j) e))
-    (λ f. v j ∙ cond-false (eqb (slot_of j) (slot_of k)) false (holds t j) f ∙ sym (cond-false (eqb (slot_of j) (slot_of k)) (same_chunk k j) (holds t j) f))
-
 -- a fill leaves a table right
-pub right_filled : (m : Meaning) (k : Chunk) (t t' : Table) → Holding k t t' → ((c : Cell) → chunk_of c ≡ k → stored t' c ≡ mark (m c)) → Kept k t t' → Right t m → Right t' m
-right_filled m k t t' held fresh kept right c h =
-    cond_both (eqb (slot_of (chunk_of c)) (slot_of k)) (same_chunk k (chunk_of c)) (holds t (chunk_of c)) (λ b. b ≡ true → stored t' c ≡ mark (m c))
-    (λ _ s. fresh c (sym (same_chunk_true k (chunk_of c) s)))
-    (λ e s. kept c (eqb-false (slot_of (chunk_of c)) (slot_of k) e) ∙ right c s)
-    (sym (held (chunk_of c)) ∙ h)
+pub right_filled : (m : Meaning) (k : Chunk) (n : ℕ) (t t' : Table) → 64 ≤ n → Filled m k n t → Holding k t t' → ((c : Cell) → stored t' c ≡ stored t c) → Right t m → Right t' m
+right_filled m k n t t' whole all held same right c h = grind (arith, nat_tests, held (chunk_of c), same c, filled_all m k n t whole all c, right c, same_chunk_true k (chunk_of c))
 
 -- ---- the answer
 
 -- the height that stands for an answer, where there is one
-pub unmarked : (a : Answer) (h : ℕ) → Some h ≡ height_of (mark a) → ◌≡◌ {A = Answer} (Ok h) a
-unmarked (Ok n) h e =
-    cond_both (eqb n 65535) None (Some n) (λ (o : Option ℕ). Some h ≡ o → ◌≡◌ {A = Answer} (Ok h) (Ok n))
-    (λ _ f. let z : ◌≡◌ {A = ℕ} 0 1 = cc in absurd (omega arith))
-    (λ _ f. cc)
-    e
-unmarked (Err b) h e = let z : ◌≡◌ {A = ℕ} 0 1 = cc in absurd (omega arith)
+unmarked : (a : Answer) (h : ℕ) → Some h ≡ height_of (mark a) → ◌≡◌ {A = Answer} (Ok h) a
+unmarked (Ok n) h e = grind (arith, nat_tests)
+unmarked (Err b) h e = absurd cc
+
+-- the chunk of the cell is held now, so its number is the one for the answer
+pub answered : (m : Meaning) (c : Cell) (h : ℕ) (t t' : Table) → Holding (chunk_of c) t t' → Right t' m → Some h ≡ height_of (stored t' c) → ◌≡◌ {A = Answer} (Ok h) (m c)
+answered m c h t t' held right is = unmarked (m c) h (is ∙ ap height_of (right c (now_held (chunk_of c) t t' held)))

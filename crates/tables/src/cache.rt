@@ -47,6 +47,7 @@ impl<F: Field> Cache<F> {
     }
 
     // Sees to it that the chunk of this cell is held, and says whether that took a fill.
+    #[tactic(auto, using(crate::proofs::Filling::held_already))]
     pub fn hold(&mut self, at: Cell) -> bool
         ensures filled { result ≡ not (holds (table_of self.old) (chunk_of at)) }
         ensures same { cache_meaning self.new ≡ cache_meaning self.old }
@@ -62,6 +63,7 @@ impl<F: Field> Cache<F> {
     }
 
     // Empties the table.
+    #[tactic(auto, using(crate::proofs::Filling::right_empty))]
     pub fn clear(&mut self)
         ensures field { below_of self.new ≡ below_of self.old }
         ensures empty { (k : Chunk) → holds (table_of self.new) k ≡ false }

@@ -27,6 +27,7 @@ fn index(at: Cell) -> usize
 }
 
 impl Table {
+    #[tactic(auto, using(crate::proofs::Filling::none_there, crate::proofs::Filling::unwritten))]
     pub fn new() -> Table
         ensures empty { (k : Chunk) → holds result k ≡ false }
         ensures marked { (c : Cell) → stored result c ≡ 65535 }
@@ -37,6 +38,7 @@ impl Table {
         }
     }
 
+    #[tactic(auto, using(crate::proofs::Filling::none_there))]
     pub fn clear(&mut self)
         ensures empty { (k : Chunk) → holds self.new k ≡ false }
         ensures numbers { (c : Cell) → stored self.new c ≡ stored self.old c }
@@ -77,6 +79,7 @@ impl Table {
     }
 
     // Writes the address of a chunk whose numbers are there.
+    #[tactic(auto, using(crate::proofs::Filling::labelled))]
     pub(crate) fn label(&mut self, chunk: Chunk)
         ensures numbers { (c : Cell) → stored self.new c ≡ stored self.old c }
         ensures held { (k : Chunk) → holds self.new k ≡ holding chunk (holds self.old) k }

@@ -1,6 +1,6 @@
 -- Nine numbers of 16 bits, weighed and divided by 16, fit 16 bits. Assumes nothing.
 use Rattle.std.proofs.Common.{◌≤◌, arith}
-use Rattle.std.proofs.ByRecursion.{All-from_get_or}
+use Rattle.std.proofs.lemmas.List.Elements.{All-from_get_or}
 use Rattle.layers.specs.declared.smoothing.TheConstants.{WEIGHTS}
 use Rattle.layers.specs.Rules.{weighed_most}
 use Rattle.layers.proofs.smoothing.SmoothingRule.answer.Goals as goal
