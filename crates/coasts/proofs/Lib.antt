@@ -1,4 +1,3 @@
 mod Drawings
 mod Plans
 mod Rows
-mod Texts
