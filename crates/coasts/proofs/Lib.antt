@@ -1,4 +1,3 @@
 mod Drawings
 pub mod Plans
 mod Rows
-mod Texts

@@ -1,7 +1,6 @@
 -- What `row` said of a row, and the text of the rows, by what is left of them. Assumes nothing.
-use Rattle.std.proofs.Common.{◌≡◌, ℕ, suc, ◌+◌, ◌-◌, ◌<◌, ◌≤◌, List, [], ◌∷◌, ◌++◌, length, get_or, IfOk, Ok, Err, Result, sym, refl, ap, ◌∙◌, append_assoc, arith}
+use Rattle.std.proofs.Common.{◌≡◌, ℕ, suc, ◌+◌, ◌-◌, ◌<◌, ◌≤◌, List, [], ◌∷◌, ◌++◌, length, get_or, Ok, Err, sym, refl, ap, ◌∙◌, append_assoc, arith}
 use Rattle.std.specs.List.{range_with_len}
-use Rattle.std.specs.Result.{result_or}
 use Rattle.std.proofs.lemmas.List.FromFn.{get_or-map-range_with_len, length-map-range_with_len}
 use Rattle.grid.specs.declared.blank.Blank.{Blank}
 use Rattle.grid.specs.declared.cell.Cell.{Cell}
@@ -15,13 +14,8 @@ use Rattle.worlds.specs.declared.refusal.RowRefusal.TheVariants.{Full, Short, Bl
 use Rattle.worlds.specs.Refusals.{fault_refusal, row_refusal}
 use Rattle.worlds.specs.Rows.{Answers, Placed, column_of}
 use Rattle.worlds.proofs.Rowing.{column_is}
-use Rattle.coasts.specs.Answers.{drawn, row_cells, with_row}
+use Rattle.coasts.specs.Answers.{drawn, row_cells}
 use Rattle.coasts.specs.Texts.{fills_text, refusal_text, row_text}
-
--- where `r.or(Err(e))` is `Ok`, so was `r`
-pub went_well : {T E D P : Type 0} (r : Result T E) (x : T) (e : D) → Ok x ≡ result_or r (Err e) → IfOk r (λ _. P) → P
-went_well (Ok y) x e h p = p
-went_well (Err y) x e h p = let z : ◌≡◌ {A = ℕ} 0 1 = cc in absurd (omega arith)
 
 -- ---- one row
 
@@ -67,19 +61,13 @@ module _ (m : Meaning) (v : Window) (n : ℕ) where
   Written j text = (k : ℕ) → text ++ drawn m v (range_with_len j (n - j)) k ≡ drawn m v (range_with_len 0 n) k
 
   pub written_none : Written 0 []
-  written_none k = let z : n - 0 ≡ n = omega arith in ap (λ (i : ℕ). drawn m v (range_with_len 0 i) k) z
-
-  row_next : (j k : ℕ) → j < n → drawn m v (range_with_len j (n - j)) k ≡ with_row (survey m (row_cells v j)) (drawn m v (range_with_len (j + 1) (n - (j + 1))) k)
-  row_next j k h = ap (λ (js : List ℕ). drawn m v js k) (one_less j n h)
+  written_none k = let z : n - 0 ≡ n = omega arith in rw z
 
   pub written_more : (j : ℕ) (text hs : List ℕ) → j < n → survey m (row_cells v j) ≡ Ok hs → Written j text → Written (j + 1) (text ++ row_text hs)
-  written_more j text hs l e so k =
-      let after = drawn m v (range_with_len (j + 1) (n - (j + 1))) k in
-      append_assoc text (row_text hs) after ∙ ap (λ (t : List ℕ). text ++ t) (sym (row_next j k l ∙ ap (λ r. with_row r after) e)) ∙ so k
+  written_more j text hs l e so k = append_assoc text (row_text hs) _ ∙ (rw (one_less j n l, e) at (so k))
 
   pub written_blank : (j k : ℕ) (text : List ℕ) (b : Blank) → j < n → survey m (row_cells v j) ≡ Err b → Written j text → text ++ refusal_text 6 ≡ drawn m v (range_with_len 0 n) k
-  written_blank j k text b l e so =
-      ap (λ (t : List ℕ). text ++ t) (sym (row_next j k l ∙ ap (λ r. with_row r (drawn m v (range_with_len (j + 1) (n - (j + 1))) k)) e)) ∙ so k
+  written_blank j k text b l e so = rw (one_less j n l, e) at (so k)
 
   pub written_all : (j k : ℕ) (text : List ℕ) → n ≤ j → Written j text → text ++ fills_text k ≡ drawn m v (range_with_len 0 n) k
-  written_all j k text l so = ap (λ (js : List ℕ). text ++ drawn m v js k) (sym (none_left j n l)) ∙ so k
+  written_all j k text l so = rw (none_left j n l) at (so k)

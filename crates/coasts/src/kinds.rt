@@ -36,25 +36,29 @@ fn cached<F: Field, R: Rule>(below: F, rule: R) -> Cached<F, R>
     Layer::new(Cache::new(below), rule)
 }
 
+#[tactic(auto, unfolding(grid::specs::Piles::carry))]
 pub fn heights(seed: u64) -> Heights
     ensures { ⟦<Heights as Field>⟧.meaning result ≡ formula (rules_of KindHeights) seed }
 {
     cached(cached(Noise::new(seed), Smoothing {}), Smoothing {})
 }
 
+#[tactic(auto, unfolding(grid::specs::Piles::carry))]
 pub fn sites(seed: u64) -> Sites
     ensures { ⟦<Sites as Field>⟧.meaning result ≡ formula (rules_of KindSites) seed }
 {
     cached(heights(seed), Settlement {})
 }
 
+#[tactic(auto, unfolding(grid::specs::Piles::carry))]
 pub fn roads(seed: u64) -> Roads
     ensures { ⟦<Roads as Field>⟧.meaning result ≡ formula (rules_of KindRoads) seed }
 {
     cached(sites(seed), Road {})
 }
 
-// What a look at one cell of a kind gives.
+// What a look at one cell of a kind gives. The noise by itself is its own formula.
+#[tactic(auto, unfolding(grid::specs::Piles::carry))]
 pub fn look(kind: Kind, seed: u64, at: Cell) -> Result<u16, BlankFault>
     ensures { result ≡ looked at (formula (rules_of kind) seed at) }
 {

@@ -2,6 +2,7 @@
 ghost use Rattle.coasts.specs.Kinds.{Margins};
 
 // How far from a cell the ground can matter, kind by kind.
+#[tactic(auto, unfolding(grid::specs::Piles::margin))]
 pub fn margins()
     ensures { Margins }
 {}

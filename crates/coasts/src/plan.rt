@@ -21,6 +21,7 @@ pub struct Plan {
 
 impl Plan {
     // What the input asks for, or why there is nothing to draw.
+    #[tactic(auto, using(crate::proofs::Plans::no_window))]
     pub fn read(input: &[u8]) -> Result<Plan, PlanRefusal>
         ensures { Planning input.now result }
     {
@@ -33,7 +34,8 @@ impl Plan {
         })
     }
 
-    // The text of its drawing, on a world of its own.
+    // The text of its drawing, on a world of its own. The noise by itself is its own formula.
+    #[tactic(auto, unfolding(grid::specs::Piles::carry))]
     pub fn draw(self, heap: Global) -> Result<String, AllocError>
         ensures { IfOk result (λ t. Drawn (formula (rules_of self.kind) self.seed) self.window (string_bytes t)) }
     {

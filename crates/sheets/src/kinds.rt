@@ -24,6 +24,7 @@ pub(crate) fn is_built(kind: Kind) -> bool
 }
 
 // What a kind answers at one cell, if the kind is built.
+#[tactic(auto, unfolding(grid::specs::Piles::carry))]
 pub fn cell(kind: Kind, seed: u64, at: Cell) -> Option<Result<u16, Blank>>
     ensures { result ≡ option_map (λ ss. formula ss seed at) (rules_of kind) }
 {
