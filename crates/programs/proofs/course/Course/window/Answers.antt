@@ -1,6 +1,6 @@
 -- A window of any size that a window may have is made where both coordinates of its corner are this near to 0.
 use Rattle.std.proofs.Common.{rules, ℕ, ◌^◌, ◌<◌, ◌≤◌, ℤ, pos, ◌+ℤ◌, nat_abs, Result, Ok, Err, arith}
-use Rattle.std.proofs.lemmas.Bool.{and_from, le-leb}
+use Rattle.std.proofs.lemmas.Bool.Decides.{nat_tests}
 use Rattle.std.proofs.lemmas.Int.{ints}
 use Rattle.std.specs.Result.{IsOk}
 use Rattle.grid.specs.declared.cell.Cell.{Cell}
@@ -18,7 +18,7 @@ made : (c : Cell) (w h : ℕ) (r : Result Window WindowRefusal) → Side w → S
 made c w h (Ok v) wide high x y makes = search
 made c w h (Err Size) wide high x y makes = absurd (makes (wide, high))
 made c w h (Err Rim) wide high x y makes =
-    absurd (makes.2 (λ i j p q. and_from _ _ (le-leb _ rim (beside c.x i w p wide x)) (le-leb _ rim (beside c.y j h q high y))))
+    absurd (makes.2 (λ i j p q. grind (arith, nat_tests, beside c.x i w p wide x, beside c.y j h q high y)))
 
 pub unwrap-requires : goal.unwrap-requires
 unwrap-requires c = search (rules, made)
