@@ -12,6 +12,7 @@ use worlds::drawing::Drawing;
 use worlds::event::Event;
 use worlds::world::World;
 
+// That a call uses the room there was relates the vector before and after, and room shrinks within a call: no invariant of a type can say it.
 impl<F: Field> Phase<F> {
     // A call on a world by itself, and what it tells.
     fn call_world(mut world: World<F>, call: Call) -> (Phase<F>, Event)

@@ -70,7 +70,7 @@ impl<F: Field> Drawing<F> {
         let window = self.window;
         let row = self.next;
         for (column, place) in out.iter_mut().enumerate() {
-            // The caller's row may be longer than the window is wide.
+            // The caller's row may be longer than the window is wide. The walk ends before a column that would not fit.
             let Some(at) = window.cell(column as u16, row) else {
                 break;
             };
