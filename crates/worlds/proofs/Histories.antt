@@ -3,7 +3,6 @@ use Rattle.std.proofs.Common.{◌⊎◌, ◌↔◌, List, [], ◌∷◌, ◌++�
 use Rattle.std.specs.List.{AllByRecursion}
 use Rattle.grid.specs.declared.chunk.Chunk.{Chunk}
 use Rattle.worlds.specs.declared.event.Event.{Event}
-use Rattle.worlds.specs.declared.event.Event.TheVariants.{Cleared}
 use Rattle.worlds.specs.Journals.{Held, HeldSince, Journal, Spares, Touched, Touches}
 
 module _ {X : Type 0} (P : X → Type 0) where
@@ -41,7 +40,3 @@ module _ (k : Chunk) where
   -- one more event
   pub held_more : (j : Journal) (e : Event) → Held (j ++ e ∷ []) k ↔ (Touches k e ⊎ (Held j k × Spares k e))
   held_more j e = search (rules, held_both j (e ∷ []))
-
-  -- none after a clear
-  pub held_clear : (j : Journal) → Held (j ++ Cleared ∷ []) k → ⊥
-  held_clear j h = search (rules, held_both j (Cleared ∷ []))
