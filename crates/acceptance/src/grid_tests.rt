@@ -102,10 +102,10 @@ fn windows_count_their_chunks(rt: HostRuntime) -> Result<(), Fail> {
 fn windows_have_their_cells(rt: HostRuntime) -> Result<(), Fail> {
     let window = Window::new(Cell { x: -2, y: 5 }, 3, 2)?;
     let last = window.cell(2, 1).ok_or("no such cell")?;
-    assert_eq!(rt; (last.x, last.y), (0, 6));
+    assert_eq!(rt; last, Cell { x: 0, y: 6 });
     assert!(rt; window.cell(3, 1).is_none());
     assert!(rt; window.cell(2, 2).is_none());
-    assert_eq!(rt; (window.corner().x, window.corner().y), (-2, 5));
+    assert_eq!(rt; window.corner(), Cell { x: -2, y: 5 });
     assert_eq!(rt; (window.width(), window.height()), (3, 2));
     Ok(())
 }

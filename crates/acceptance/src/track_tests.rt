@@ -15,16 +15,12 @@ use worlds::refusal::RowRefusal;
 
 // Whether a journal tells this cell at least once. It must have this height each time.
 fn check_told(rt: &impl Abort, journal: &[Event], cell: Cell, height: u16) {
-    let mut found = false;
-    for event in journal {
-        if let Event::Asked(at, answer) = event {
-            if *at == cell {
-                assert_eq!(rt; *answer, Ok(height));
-                found = true;
-            }
-        }
-    }
-    assert!(rt; found);
+    let mut answers = journal.iter().filter_map(|event| match event {
+        Event::Asked(at, answer) if *at == cell => Some(*answer),
+        _ => None,
+    });
+    assert_eq!(rt; answers.next(), Some(Ok(height)));
+    assert!(rt; answers.all(|answer| answer == Ok(height)));
 }
 
 #[test]
@@ -53,15 +49,15 @@ fn a_track_tells_each_call(rt: HostRuntime) -> Result<(), Fail> {
     assert_eq!(rt; run.done, 11);
     let journal = run.journal.as_slice();
     assert_eq!(rt; journal.len(), 17);
-    assert!(rt; matches!(&journal[1], Event::Passed));
-    assert!(rt; matches!(&journal[3], Event::Passed));
-    assert!(rt; matches!(&journal[4], Event::Refused(RowRefusal::Short)));
-    assert!(rt; matches!(&journal[8], Event::Wrote));
-    assert!(rt; matches!(&journal[13], Event::Refused(RowRefusal::Full)));
+    assert_eq!(rt; journal[1], Event::Passed);
+    assert_eq!(rt; journal[3], Event::Passed);
+    assert_eq!(rt; journal[4], Event::Refused(RowRefusal::Short));
+    assert_eq!(rt; journal[8], Event::Wrote);
+    assert_eq!(rt; journal[13], Event::Refused(RowRefusal::Full));
     // Four chunks are touched, and the look has filled one of them before.
-    assert!(rt; matches!(&journal[14], Event::Finished(3)));
-    assert!(rt; matches!(&journal[15], Event::Cleared));
-    assert!(rt; matches!(&journal[16], Event::Passed));
+    assert_eq!(rt; journal[14], Event::Finished(3));
+    assert_eq!(rt; journal[15], Event::Cleared);
+    assert_eq!(rt; journal[16], Event::Passed);
     check_told(&rt, journal, here, 7);
     Ok(())
 }

@@ -1,18 +1,20 @@
 // The answer to an input: the text of a drawing, or the line of a refusal.
 ghost use Rattle.std.specs.Prelude.{◌≡◌, IfOk, string_bytes};
 ghost use Rattle.coasts.specs.Answers.{Prints};
+ghost use Rattle.coasts.specs.Refusals.{plan_refusal};
 ghost use Rattle.coasts.specs.Texts.{refusal_text};
 
 use crate::plan::Plan;
+use crate::refusal::PlanRefusal;
 use crate::text::write_refusal;
 use std::alloc::{AllocError, Global};
 
 // The line of a refusal by itself.
-pub fn refusal_line(heap: Global, number: u8) -> Result<String, AllocError>
-    ensures { IfOk result (λ t. string_bytes t ≡ refusal_text number) }
+pub fn refusal_line(heap: Global, refusal: PlanRefusal) -> Result<String, AllocError>
+    ensures { IfOk result (λ t. string_bytes t ≡ refusal_text (plan_refusal refusal)) }
 {
     let mut text = String::new(heap);
-    write_refusal(&mut text, number)?;
+    write_refusal(&mut text, refusal.number())?;
     Ok(text)
 }
 
@@ -22,6 +24,6 @@ pub fn answer(heap: Global, input: &[u8]) -> Result<String, AllocError>
 {
     match Plan::read(input) {
         Ok(plan) => plan.draw(heap),
-        Err(refusal) => refusal_line(heap, refusal.number()),
+        Err(refusal) => refusal_line(heap, refusal),
     }
 }

@@ -62,7 +62,7 @@ pub fn roads(seed: u64) -> Roads
 pub fn look(kind: Kind, seed: u64, at: Cell) -> Result<u16, BlankFault>
     ensures { result ≡ looked at (formula (rules_of kind) seed at) }
 {
-    // The arms are those of a drawing, and stand here for the same reason.
+    // The arms are those of `Plan::draw`, and stand here for the same reason.
     match kind {
         Kind::Raw => World::open(Noise::new(seed)).look(at),
         Kind::Heights => World::open(heights(seed)).look(at),

@@ -15,7 +15,7 @@ pub use refusal::WindowRefusal;
 pub const LONGEST_SIDE: u16 = 57;
 
 // A rectangle by its north-west cell. Every window that exists has sides from 1 to 57 and lies wholly inside the rim.
-#[derive(Clone, Copy, Debug)]
+#[derive(Clone, Copy, Debug, PartialEq, Eq)]
 pub struct Window {
     corner: Cell,
     width: u16,

@@ -50,6 +50,7 @@ impl fmt::Display for Kind {
 pub struct Request {
     pub kind: Kind,
     pub seed: u64,
+    // The two coordinates stand as on the line; `corner` makes a cell of them.
     pub x: i32,
     pub y: i32,
     pub width: u16,

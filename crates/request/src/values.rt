@@ -38,6 +38,7 @@ where
     }
 }
 
+// The three numbers differ in their texts' ranges alone. An impl for all of them at once would meet the kind's, and a macro of our own is refused.
 impl Field for u64 {
     ghost text = { decimal };
 

@@ -22,7 +22,7 @@ impl Rule for Settlement {
     fn answer(&self, square: &[u16]) -> u16 {
         let centre = square[CENTRE];
         let settles = square.iter().enumerate().all(|(place, &height)| {
-            place == CENTRE || height < centre || height == centre && CENTRE < place
+            place == CENTRE || (height, CENTRE) < (centre, place)
         });
         u16::from(settles)
     }

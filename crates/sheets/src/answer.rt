@@ -19,6 +19,6 @@ pub fn answer(heap: Global, input: &[u8]) -> Result<String, SheetError>
             }
             Ok(plan.draw(heap)?)
         }
-        Err(refusal) => Ok(refusal_line(heap, refusal.number())?),
+        Err(refusal) => Ok(refusal_line(heap, refusal)?),
     }
 }

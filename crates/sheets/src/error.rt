@@ -15,6 +15,7 @@ pub enum SheetError {
     NotBuilt(Kind),
 }
 
+// Written by hand, since what the kit's `thiserror` derives has no contract.
 impl fmt::Display for SheetError {
     ghost output = { λ e. Some (error_text e) };
 

@@ -10,7 +10,7 @@ use Rattle.grid.specs.Meanings.{Answer, Meaning}
 use Rattle.grid.specs.Places.{cell_in, chunk_of, place_of, same_chunk, slot_of}
 use Rattle.grid.proofs.Chunks.{cell_in_place, chunk_cell_in, place_cell_in, place_lt, same_chunk_refl, same_chunk_true, slot_lt}
 use Rattle.tables.specs.declared.table.Table.{Table}
-use Rattle.tables.specs.Tables.{Right, height_of, holding, holds, index_of, is_chunk, mark, sparing, stored}
+use Rattle.tables.specs.Tables.{Right, height_for, holding, holds, index_of, is_chunk, mark, sparing, stored}
 
 -- ---- addresses
 
@@ -107,10 +107,10 @@ right_filled m k n t t' whole all held same right c h = grind (arith, nat_tests,
 -- ---- the answer
 
 -- the height that stands for an answer, where there is one
-unmarked : (a : Answer) (h : ℕ) → Some h ≡ height_of (mark a) → ◌≡◌ {A = Answer} (Ok h) a
+unmarked : (a : Answer) (h : ℕ) → Some h ≡ height_for (mark a) → ◌≡◌ {A = Answer} (Ok h) a
 unmarked (Ok n) h e = grind (arith, nat_tests)
 unmarked (Err b) h e = absurd cc
 
 -- the chunk of the cell is held now, so its number is the one for the answer
-pub answered : (m : Meaning) (c : Cell) (h : ℕ) (t t' : Table) → Holding (chunk_of c) t t' → Right t' m → Some h ≡ height_of (stored t' c) → ◌≡◌ {A = Answer} (Ok h) (m c)
-answered m c h t t' held right is = unmarked (m c) h (is ∙ ap height_of (right c (now_held (chunk_of c) t t' held)))
+pub answered : (m : Meaning) (c : Cell) (h : ℕ) (t t' : Table) → Holding (chunk_of c) t t' → Right t' m → Some h ≡ height_for (stored t' c) → ◌≡◌ {A = Answer} (Ok h) (m c)
+answered m c h t t' held right is = unmarked (m c) h (is ∙ ap height_for (right c (now_held (chunk_of c) t t' held)))

@@ -3,7 +3,7 @@
 --     index_of c          where the number of a cell stands
 --     stored t c          the number that stands there
 --     number_for h        the number for a height or a blank: the height, or 65,535 for none
---     height_of n         the height that a number stands for, if it is one
+--     height_for n         the height that a number stands for, if it is one
 --     mark a              the number for an answer
 --     Right t m           every number of a held chunk is the one for what m gives at its cell
 --     holding k H         the chunks held once k is, where H were held before: k, and those of other slots
@@ -34,8 +34,8 @@ abbrev pub number_for : Option ℕ → ℕ
 number_for (Some h) = h
 number_for None = 65535
 
-abbrev pub height_of : ℕ → Option ℕ
-height_of n = cond (n == 65535) None (Some n)
+abbrev pub height_for : ℕ → Option ℕ
+height_for n = cond (n == 65535) None (Some n)
 
 abbrev pub mark : Answer → ℕ
 mark a = number_for (result_ok a)

@@ -2,7 +2,7 @@
 ghost use Rattle.std.specs.Prelude.{◌≡◌, ◌<◌, false, ◌≢◌};
 ghost use Rattle.grid.specs.declared.cell.Cell.{Cell};
 ghost use Rattle.grid.specs.declared.chunk.Chunk.{Chunk};
-ghost use Rattle.tables.specs.Tables.{holding, holds, index_of, sparing, stored, number_for, height_of};
+ghost use Rattle.tables.specs.Tables.{holding, holds, index_of, sparing, stored, number_for, height_for};
 
 use grid::cell::Cell;
 use grid::chunk::Chunk;
@@ -55,7 +55,7 @@ impl Table {
 
     // The height that stands where that of this cell belongs, or none where the mark does.
     pub fn get(&self, at: Cell) -> Option<u16>
-        ensures { result ≡ height_of (stored self.now at) }
+        ensures { result ≡ height_for (stored self.now at) }
     {
         let number = self.heights[index(at)];
         (number != MARK).then_some(number)

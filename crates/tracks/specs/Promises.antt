@@ -28,7 +28,6 @@ use Rattle.worlds.specs.Drawings.{Underway, next_of, window_of, world_of}
 use Rattle.worlds.specs.Journals.{Held, Journal, Missing, Touched}
 use Rattle.worlds.specs.Worlds.{Fits, table_of}
 use Rattle.tracks.specs.declared.call.Call.{Call}
-use Rattle.tracks.specs.declared.replay.TheConstants.{MOST_EVENTS}
 use Rattle.tracks.specs.declared.replay.Track.{Track}
 use Rattle.tracks.specs.declared.run.Phase.{Phase}
 use Rattle.tracks.specs.declared.run.Phase.TheVariants.{Alone, Open}
@@ -50,7 +49,7 @@ Between (Asked c a) = Unit {0}
 Between Cleared = ⊥
 Between (Begun v) = ⊥
 Between Wrote = Unit {0}
-Between (Refused n) = Unit {0}
+Between (Refused r) = Unit {0}
 Between (Finished n) = ⊥
 Between Passed = Unit {0}
 
@@ -93,4 +92,4 @@ module _ {F : Type 0} {g : Ghosts F} where
     pub faithful : Faithful (g.meaning t.field) (take run.done t.calls.now) run.phase (vec_items run.journal)
     pub done : run.done ≤ length t.calls.now
     -- no call tells more events than that
-    pub whole : MOST_EVENTS * length t.calls.now ≤ vec_capacity t.room → run.done ≡ length t.calls.now
+    pub whole : 58 * length t.calls.now ≤ vec_capacity t.room → run.done ≡ length t.calls.now

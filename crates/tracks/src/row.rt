@@ -15,7 +15,7 @@ use worlds::drawing::Drawing;
 use worlds::event::Event;
 use worlds::refusal::RowRefusal;
 
-// The column of a cell of the window. It is at most 56, so no `try_from` is needed.
+// The column of a cell of the window. No `From` leads from a `u32` to an index, and a `try_from` would have an error that never comes.
 fn column(window: Window, cell: Cell) -> usize
     ensures { result ≡ column_of window cell }
 {

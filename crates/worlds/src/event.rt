@@ -4,7 +4,7 @@ use grid::blank::Blank;
 use grid::cell::Cell;
 use grid::window::Window;
 
-#[derive(Clone, Copy, Debug)]
+#[derive(Clone, Copy, Debug, PartialEq, Eq)]
 pub enum Event {
     // A look or a row asked this cell, and this came.
     Asked(Cell, Result<u16, Blank>),

@@ -16,7 +16,8 @@ use grid::cell::Cell;
 use grid::field::Field;
 use tables::cache::Cache;
 
-// The table is that of a cache, which keeps it right.
+// The table is that of a cache, which keeps it right. What the world holds follows from its calls, and no ghost field keeps these,
+// so that each call carries the account on by a clause of its own, `history`.
 #[derive(Drop)]
 pub struct World<F: Field> {
     cache: Cache<F>,

@@ -11,7 +11,7 @@ pub enum WindowRefusal {
 }
 
 impl WindowRefusal {
-    // The number under which users know this refusal.
+    // The number under which users know this refusal. Each type of refusal has such a method; a trait over them is no plainer, as nobody takes all of them.
     pub fn number(self) -> u8
         ensures { result ≡ window_refusal self }
     {

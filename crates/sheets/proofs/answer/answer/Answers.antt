@@ -1,5 +1,4 @@
-use Rattle.std.proofs.Common.{string_bytes, ap, ◌∙◌}
-use Rattle.coasts.specs.Texts.{refusal_text}
+use Rattle.std.proofs.Common.{string_bytes}
 use Rattle.coasts.proofs.Plans.{prints_refusal}
 use Rattle.sheets.proofs.Plans.{fails_unbuilt, prints_built}
 use Rattle.sheets.proofs.answer.answer.Goals as goal
@@ -14,4 +13,4 @@ returns-then-not-is_built c = fails_unbuilt c.args.input.now c.in-Ok.plan c.in-O
 pub returns-in_ok-refusal_line-in-Err : goal.returns-in_ok-refusal_line-in-Err
 returns-in_ok-refusal_line-in-Err c =
     prints_refusal _ c.args.input.now (string_bytes c.in_ok-refusal_line-in-Err.field-0) c.in-Err.refusal c.in-Err.ensures
-    (c.in_ok-refusal_line-in-Err.ensures ∙ ap refusal_text c.number.ensures)
+    c.in_ok-refusal_line-in-Err.ensures
