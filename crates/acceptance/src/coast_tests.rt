@@ -3,7 +3,17 @@ use coasts::answer::answer;
 use coasts::kinds::look;
 use grid::cell::Cell;
 use request::Kind;
+use std::process::Abort;
 use std::test::Fail;
+
+// Each line is answered so.
+fn check_answers(rt: &(impl Abort + AllocGlobal), cases: &[(&[u8], &str)]) -> Result<(), Fail> {
+    for (line, expected) in cases {
+        let text = answer(rt.alloc(), line)?;
+        assert_eq!(rt; text.as_str(), *expected);
+    }
+    Ok(())
+}
 
 #[test]
 fn looks_at_the_kinds(rt: HostRuntime) {
@@ -17,11 +27,7 @@ fn looks_at_the_kinds(rt: HostRuntime) {
 
 #[test]
 fn answers_of_the_reference_through_worlds(rt: HostRuntime) -> Result<(), Fail> {
-    for (line, expected) in REFERENCE {
-        let text = answer(rt.alloc(), line)?;
-        assert_eq!(rt; text.as_str(), expected);
-    }
-    Ok(())
+    check_answers(&rt, &REFERENCE)
 }
 
 #[test]
@@ -49,9 +55,5 @@ fn settlements_and_roads_of_the_reference(rt: HostRuntime) -> Result<(), Fail> {
         (b"sites 1 -999999996 0 3 1\n", "0 0 0\nfills 1\n"),
         (b"sites 1 -999999997 0 3 1\n", "refused 6\n"),
     ];
-    for (line, expected) in cases {
-        let text = answer(rt.alloc(), line)?;
-        assert_eq!(rt; text.as_str(), expected);
-    }
-    Ok(())
+    check_answers(&rt, &cases)
 }
