@@ -92,6 +92,7 @@ fn lines_that_are_refused(rt: HostRuntime) -> Result<(), Fail> {
 
 #[test]
 fn answers_of_the_reference(rt: HostRuntime) -> Result<(), Fail> {
+    // One loop for this and for the coasts' answers would be no plainer: they fail with different errors.
     for (line, expected) in REFERENCE {
         let text = answer(rt.alloc(), line)?;
         assert_eq!(rt; text.as_str(), expected);

@@ -13,7 +13,7 @@ use tracks::replay::Track;
 use worlds::event::Event;
 use worlds::refusal::RowRefusal;
 
-// Whether a journal tells this cell at least once. It must have this height each time.
+// Checks that a journal tells this cell, with this height each time.
 fn check_told(rt: &impl Abort, journal: &[Event], cell: Cell, height: u16) {
     let mut answers = journal.iter().filter_map(|event| match event {
         Event::Asked(at, answer) if *at == cell => Some(*answer),

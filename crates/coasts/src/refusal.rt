@@ -15,7 +15,7 @@ pub enum PlanRefusal {
 }
 
 impl PlanRefusal {
-    // The number under which users know this refusal.
+    // The number under which users know this refusal. No trait, as at `WindowRefusal::number`.
     pub fn number(self) -> u8
         ensures { result ≡ plan_refusal self }
     {

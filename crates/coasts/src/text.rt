@@ -34,7 +34,7 @@ pub(crate) fn write_fills(text: &mut String, fills: u32) -> Result<(), AllocErro
     writeln!(text, "fills {fills}")
 }
 
-// A refusal is printed by its number, which its type gives.
+// A refusal is printed by its number, which its type gives. A `Display` for each type would say this line several times.
 pub(crate) fn write_refusal(text: &mut String, number: u8) -> Result<(), AllocError>
     ensures { OnOk result (string_bytes text.new ≡ string_bytes text.old ++ refusal_text number) }
 {

@@ -23,7 +23,7 @@ const COURSE: Course = Course { east: 40, south: 7 };
 // What counts for a blank in the checksum, which is made of numbers. No height is as great.
 const BLANK: u16 = 65_535;
 
-// Asks one row of a window from west to east. The field and the tally are two parameters here and below, since they are two things to whoever calls.
+// Asks one row of a window from west to east. A struct of the field and the tally would be no plainer: the one is lent by `run`, the other is the answer, and it would be made and taken apart in each call.
 fn ask_row<F: Field>(field: &mut F, window: &Window, row: u16, mut tally: Tally) -> Tally {
     for column in 0..window.width() {
         if let Some(at) = window.cell(column, row) {

@@ -27,7 +27,7 @@ impl Chunk {
         among_64(self.x, self.y)
     }
 
-    // Whether this is the address of the same chunk. It is the derived equality, with a contract in the words of the addresses.
+    // Whether this is the address of the same chunk. It is the derived equality under a contract in the words of the addresses, and stays beside it since a must-fail edit turns its body.
     pub fn is(self, other: Chunk) -> bool
         ensures { result ≡ same_chunk self other }
     {

@@ -60,7 +60,7 @@ impl<F: Field, R: Rule> Field for Layer<F, R> {
         let radius = self.rule.radius();
         let side = 2 * radius + 1;
         let mut square = [0u16; LARGEST_SQUARE];
-        // The square stands in a fixed local array, not on the heap, and is filled up to `count`: as far as the walk has come.
+        // Labelled loops over a fixed local array are the form that the project wants here. The square stands in that array, not on the heap, and is filled up to `count`: as far as the walk has come.
         let mut count: usize = 0;
         let mut blank = None;
         'search: for row in 0..side {

@@ -50,7 +50,7 @@ impl fmt::Display for Kind {
 pub struct Request {
     pub kind: Kind,
     pub seed: u64,
-    // The two coordinates stand as on the line; `corner` makes a cell of them.
+    // The two coordinates stand as on the line. A cell here would be no plainer: only `corner` wants one, and makes it.
     pub x: i32,
     pub y: i32,
     pub width: u16,
@@ -65,7 +65,7 @@ pub enum RequestRefusal {
 }
 
 impl RequestRefusal {
-    // The number under which users know this refusal.
+    // The number under which users know this refusal. No trait, as at `WindowRefusal::number`.
     pub fn number(self) -> u8
         ensures { result ≡ request_refusal self }
     {

@@ -38,7 +38,7 @@ where
     }
 }
 
-// The three numbers differ in their texts' ranges alone. An impl for all of them at once would meet the kind's, and a macro of our own is refused.
+// One impl for all three numbers would be no plainer: it would take a trait that gives each its text and its range, which is what these impls do. They share `number`.
 impl Field for u64 {
     ghost text = { decimal };
 

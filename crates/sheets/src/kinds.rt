@@ -16,7 +16,7 @@ use request::Kind;
 // Smoothing over a cache over a field.
 pub type Smoothed<F> = Cached<F, Smoothing>;
 
-// Whether this kind is built.
+// Whether this kind is built. `cell` has the same two in its arms, each of which makes a pile of its own type.
 pub(crate) fn is_built(kind: Kind) -> bool
     ensures { result ≡ is_some (rules_of kind) }
 {

@@ -25,6 +25,7 @@ fn column(window: Window, cell: Cell) -> usize
 impl<F: Field> Phase<F> {
     // Draws the next row into one of its own with so many places, and tells it. No window is wider than 57, so that many serve for more.
     pub(crate) fn draw(mut drawing: Drawing<F>, places: usize, journal: &mut Vec<Event>) -> Phase<F>
+        // Room for what a call tells, and its use: as turn.rt says, no invariant.
         requires { HasRoom journal.old }
         ensures law { (m : Meaning) → Turns m (Phase.Open drawing) (Call.Row places) journal.old.items result journal.new.items }
         ensures room { UsesRoom journal.old journal.new }

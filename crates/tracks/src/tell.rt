@@ -18,6 +18,7 @@ pub(crate) struct Row {
 impl Row {
     // Tells that its cells, from the first one on, have these heights, and then one event more.
     pub(crate) fn tell(self, heights: &[u16], last: Event, journal: &mut Vec<Event>)
+        // Room for what a call tells, and its use: as turn.rt says, no invariant.
         requires { HasRoom journal.old }
         ensures told { journal.new.items ≡ journal.old.items ++ (heights_told self.window self.number heights.now ++ last ∷ []) }
         ensures room { UsesRoom journal.old journal.new }

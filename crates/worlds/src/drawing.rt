@@ -71,6 +71,7 @@ impl<F: Field> Drawing<F> {
         let row = self.next;
         for (column, place) in out.iter_mut().enumerate() {
             // The caller's row may be longer than the window is wide. The walk ends before a column that would not fit.
+            // A `zip` with the columns was tried: after an adapter of `iter_mut` a proof knows nothing of the places.
             let Some(at) = window.cell(column as u16, row) else {
                 break;
             };
@@ -107,6 +108,7 @@ impl<F: Field> Drawing<F> {
     pub fn finish(self) -> (World<F>, u32)
         ensures world { result.0 ≡ world_of self }
         ensures fills { result.1 ≡ fills_of self }
+        // The premise of the others is the account, as `World` carries it on.
         // Each chunk that the drawing touched and its world lacked at the begin, once. All that it touched are held.
         ensures exact { (m : Meaning) (before during : Journal) → Underway m self before during → Counts result.1 (Missing (Held before) during) }
         ensures holds { (m : Meaning) (before during : Journal) → Underway m self before during → (k : Chunk) → Touched during k → held_by result.0 k ≡ true }

@@ -16,7 +16,7 @@ pub struct BlankFault {
 }
 
 impl BlankFault {
-    // The number under which users know this refusal.
+    // The number under which users know this refusal. No trait, as at `WindowRefusal::number`.
     pub fn number(self) -> u8
         ensures { result ≡ fault_refusal }
     {
@@ -35,7 +35,7 @@ pub enum RowRefusal {
 }
 
 impl RowRefusal {
-    // The number under which users know this refusal.
+    // The number under which users know this refusal. A variant carries data, so no cast of a discriminant gives it.
     pub fn number(self) -> u8
         ensures { result ≡ row_refusal self }
     {
