@@ -1,21 +1,24 @@
 -- Filling a slot of a chunk table. Assumes nothing.
-use Rattle.std.proofs.Common.{◌≡◌, ℕ, ◌+◌, ◌*◌, ◌%◌, ◌<◌, ◌≤◌, true, false, cond, eqb, ◌≢◌, List, length, get_or, set, replicate, Some, None, Ok, Err, Option, sym, refl, ap, ◌∙◌, subst, arith, get_or-set_other, below_more}
+use Rattle.std.proofs.Common.{◌≡◌, ℕ, ◌+◌, ◌*◌, ◌%◌, ◌<◌, Bool, true, false, cond, eqb, ◌≢◌, List, length, get_or, set, replicate, Some, None, Ok, Err, Option, sym, ap, ◌∙◌, subst, arith, get_or-set_other, below_more}
 use lib.ListN.{get_or-replicate}
 use Rattle.std.proofs.lemmas.Bool.Decides.{nat_tests}
 use Rattle.std.proofs.lemmas.Grind.{get_or-set_at}
-use Rattle.std.proofs.lemmas.Bool.{both_ways, false≢true}
+use Rattle.std.proofs.lemmas.Bool.{both_ways, cond-false, cond-true, false≢true}
 use Rattle.grid.specs.declared.cell.Cell.{Cell}
 use Rattle.grid.specs.declared.chunk.Chunk.{Chunk}
 use Rattle.grid.specs.Meanings.{Answer, Meaning}
-use Rattle.grid.specs.Places.{cell_in, chunk_of, place_of, same_chunk, slot_of}
+use Rattle.grid.specs.Places.{cell_in, chunk_of, inside, place_of, same_chunk, slot_of}
 use Rattle.grid.proofs.Chunks.{cell_in_place, chunk_cell_in, place_cell_in, place_lt, same_chunk_refl, same_chunk_true, slot_lt}
 use Rattle.tables.specs.declared.table.Table.{Table}
-use Rattle.tables.specs.Tables.{Right, height_for, holding, holds, index_of, is_chunk, mark, sparing, stored}
+use Rattle.tables.specs.Tables.{Right, height_for, holding, holds, index_of, is_chunk, mark, stored, touch}
 
 -- ---- addresses
 
-pub none_there : (k : Chunk) → is_chunk (get_or (replicate 64 None) (slot_of k) None) k ≡ false
-none_there k = ap (λ (o : Option Chunk). is_chunk o k) (get_or-replicate 64 (slot_of k) None None (slot_lt k))
+pub none_there : (i n : ℕ) (k : Chunk) → i < n → is_chunk (get_or (replicate n None) i None) k ≡ false
+none_there i n k h = ap (λ (o : Option Chunk). is_chunk o k) (get_or-replicate n i None None h)
+
+pub none_held : (k : Chunk) → is_chunk (get_or (replicate 64 None) (slot_of k) None) k ≡ false
+none_held k = none_there (slot_of k) 64 k (slot_lt k)
 
 -- a slot was given an address
 pub labelled : (ss : List (Option Chunk)) (s : ℕ) (k j : Chunk) → length ss ≡ 64 → s ≡ slot_of k → is_chunk (get_or (set ss s (Some k)) (slot_of j) None) j ≡ cond (eqb (slot_of j) (slot_of k)) (same_chunk k j) (is_chunk (get_or ss (slot_of j) None) j)
@@ -35,6 +38,12 @@ Holding k t t' = (j : Chunk) → holds t' j ≡ holding k (holds t) j
 
 now_held : (k : Chunk) (t t' : Table) → Holding k t t' → holds t' k ≡ true
 now_held k t t' h = grind (arith, nat_tests, h k, same_chunk_refl k)
+
+pub touched : (c : Cell) (t t' : Table) → inside c ≡ true → Holding (chunk_of c) t t' → (j : Chunk) → holds t' j ≡ touch c (holds t) j
+touched c t t' i h j = h j ∙ ap (λ (H : Chunk → Bool). H j) (sym (cond-true (inside c) (holding (chunk_of c) (holds t)) (holds t) i))
+
+pub untouched : (c : Cell) (t : Table) → inside c ≡ false → (j : Chunk) → holds t j ≡ touch c (holds t) j
+untouched c t i j = ap (λ (H : Chunk → Bool). H j) (sym (cond-false (inside c) (holding (chunk_of c) (holds t)) (holds t) i))
 
 -- ---- numbers
 
@@ -73,36 +82,18 @@ kept_more k p h t₀ t t' lt put before c apart =
     put.1 c (λ same. omega (arith, index_cell_in k p lt, place_lt c)) ∙ before c apart
 
 -- the 64 cells of k are all that lie in k
-filled_all : (m : Meaning) (k : Chunk) (n : ℕ) (t : Table) → 64 ≤ n → Filled m k n t → (c : Cell) → chunk_of c ≡ k → stored t c ≡ mark (m c)
-filled_all m k n t whole all c e =
+pub filled_all : (m : Meaning) (k : Chunk) (t : Table) → Filled m k 64 t → (c : Cell) → chunk_of c ≡ k → stored t c ≡ mark (m c)
+filled_all m k t all c e =
     let there : cell_in k (place_of c) ≡ c = rw (← e) (cell_in_place c) in
-    subst (λ (d : Cell). stored t d ≡ mark (m d)) there (all (place_of c) (omega (arith, place_lt c)))
-
--- the chunks of t' are those of t but for the slot of k
-abbrev pub Sparing : Chunk → Table → Table → Type 0
-Sparing k t t' = (j : Chunk) → holds t' j ≡ sparing k (holds t) j
-
--- what is held is not in an emptied slot, and was held before
-spared : (k : Chunk) (t t' : Table) (j : Chunk) → Sparing k t t' → holds t' j ≡ true → (slot_of j ≢ slot_of k) × (holds t j ≡ true)
-spared k t t' j v h = grind (arith, nat_tests, v j)
+    subst (λ (d : Cell). stored t d ≡ mark (m d)) there (all (place_of c) (place_lt c))
 
 -- a table that holds nothing has no wrong number
 pub right_empty : (t : Table) (m : Meaning) → ((k : Chunk) → holds t k ≡ false) → Right t m
 right_empty t m none c there = absurd (both_ways (holds t (chunk_of c)) (none (chunk_of c)) there)
 
--- a table with an emptied slot is right
-pub right_spared : (m : Meaning) (k : Chunk) (t t' : Table) → Sparing k t t' → ((c : Cell) → stored t' c ≡ stored t c) → Right t m → Right t' m
-right_spared m k t t' v same right c h = same c ∙ right c (spared k t t' (chunk_of c) v h).1
-
--- where its slot is empty, a number of k leaves a table right
-pub right_put : (m : Meaning) (k : Chunk) (p h : ℕ) (s t t' : Table) → p < 64 → Put (cell_in k p) h t t' → Sparing k s t → ((j : Chunk) → holds t' j ≡ holds t j) → Right t m → Right t' m
-right_put m k p h s t t' lt put v held right c there =
-    let before = sym (held (chunk_of c)) ∙ there in
-    kept_more k p h t t t' lt put (λ _ _. refl) c (spared k s t (chunk_of c) v before).0 ∙ right c before
-
 -- a fill leaves a table right
-pub right_filled : (m : Meaning) (k : Chunk) (n : ℕ) (t t' : Table) → 64 ≤ n → Filled m k n t → Holding k t t' → ((c : Cell) → stored t' c ≡ stored t c) → Right t m → Right t' m
-right_filled m k n t t' whole all held same right c h = grind (arith, nat_tests, held (chunk_of c), same c, filled_all m k n t whole all c, right c, same_chunk_true k (chunk_of c))
+pub right_filled : (m : Meaning) (k : Chunk) (t t' : Table) → Holding k t t' → ((c : Cell) → chunk_of c ≡ k → stored t' c ≡ mark (m c)) → Kept k t t' → Right t m → Right t' m
+right_filled m k t t' held fresh kept right c h = grind (arith, nat_tests, held (chunk_of c), fresh c, kept c, right c, same_chunk_true k (chunk_of c))
 
 -- ---- the answer
 

@@ -7,9 +7,9 @@
 --     mark a              the number for an answer
 --     Right t m           every number of a held chunk is the one for what m gives at its cell
 --     holding k H         the chunks held once k is, where H were held before: k, and those of other slots
---     sparing k H         the chunks held once the slot of k is empty, where H were held before
 --     touch c H           the chunks held after c was asked, where H were held before
-use Rattle.std.specs.Prelude.{◌≡◌, ℕ, ◌+◌, ◌*◌, Bool, true, false, cond, Some, None, Option, ◌==◌, slice_index, slice_index_or}
+--     Passes c f t g u    what asking c of a field f through a table t leaves, beside the field's meaning: the field g and the table u
+use Rattle.std.specs.Prelude.{◌≡◌, ℕ, ◌+◌, ◌*◌, Bool, true, false, cond, Some, None, Option, ◌==◌, ◌≢◌, slice_index, slice_index_or}
 use Rattle.std.specs.Result.{result_ok}
 use Rattle.grid.specs.declared.cell.Cell.{Cell}
 use Rattle.grid.specs.declared.chunk.Chunk.{Chunk}
@@ -46,8 +46,14 @@ Right t m = (c : Cell) → holds t (chunk_of c) ≡ true → stored t c ≡ mark
 abbrev pub holding : Chunk → (Chunk → Bool) → Chunk → Bool
 holding k H j = cond (slot_of j == slot_of k) (same_chunk k j) (H j)
 
-abbrev pub sparing : Chunk → (Chunk → Bool) → Chunk → Bool
-sparing k H j = cond (slot_of j == slot_of k) false (H j)
-
 abbrev pub touch : Cell → (Chunk → Bool) → Chunk → Bool
 touch c H = cond (inside c) (holding (chunk_of c) H) H
+
+module _ {F : Type 0} where
+  pub record Passes (c : Cell) (f : F) (t : Table) (g : F) (u : Table) : Type 0 where
+    pub held : (k : Chunk) → holds u k ≡ touch c (holds t) k
+    pub others : (d : Cell) → (slot_of (chunk_of d) ≢ slot_of (chunk_of c)) → stored u d ≡ stored t d
+    pub beyond : inside c ≡ false → (g ≡ f) × (u ≡ t)
+    pub kept : holds t (chunk_of c) ≡ true → u ≡ t
+    -- a height is answered from the table: the field below is not asked
+    pub hit : holds t (chunk_of c) ≡ true → (stored t c ≢ 65535) → g ≡ f

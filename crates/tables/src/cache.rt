@@ -6,6 +6,7 @@ ghost use Rattle.grid.specs.declared.chunk.Chunk.{Chunk};
 ghost use Rattle.tables.specs.Tables.{Right, holding, holds, stored};
 
 use crate::table::Table;
+use crate::through::{ask_through, hold};
 use grid::blank::Blank;
 use grid::cell::Cell;
 use grid::field::Field;
@@ -31,23 +32,7 @@ impl<F: Field> Cache<F> {
         }
     }
 
-    // Asks all 64 cells of the chunk in which this cell lies, and overwrites its slot.
-    fn fill(&mut self, at: Cell)
-        ensures same { cache_meaning self.new ≡ cache_meaning self.old }
-        ensures held { (k : Chunk) → holds (table_of self.new) k ≡ holding (chunk_of at) (holds (table_of self.old)) k }
-        ensures others { (c : Cell) → (slot_of (chunk_of c) ≢ slot_of (chunk_of at)) → stored (table_of self.new) c ≡ stored (table_of self.old) c }
-    {
-        self.table.vacate(at.chunk());
-        for place in 0..64u8 {
-            let cell = at.chunk_cell(place);
-            let height = self.below.ask(cell).ok();
-            self.table.put(cell, height);
-        }
-        self.table.label(at.chunk());
-    }
-
     // Sees to it that the chunk of this cell is held, and says whether that took a fill.
-    #[tactic(auto, using(crate::proofs::Filling::held_already))]
     pub fn hold(&mut self, at: Cell) -> bool
         ensures filled { result ≡ not (holds (table_of self.old) (chunk_of at)) }
         ensures same { cache_meaning self.new ≡ cache_meaning self.old }
@@ -55,11 +40,7 @@ impl<F: Field> Cache<F> {
         ensures others { (c : Cell) → (slot_of (chunk_of c) ≢ slot_of (chunk_of at)) → stored (table_of self.new) c ≡ stored (table_of self.old) c }
         ensures stays { holds (table_of self.old) (chunk_of at) ≡ true → self.new ≡ self.old }
     {
-        if self.table.has(at.chunk()) {
-            return false;
-        }
-        self.fill(at);
-        true
+        hold(&mut self.below, &mut self.table, at)
     }
 
     // Empties the table.
@@ -78,21 +59,13 @@ impl<F: Field> Field for Cache<F> {
 
     ghost meaning = { cache_meaning };
 
-    ghost lawful = { cache_lawful F.Field.lawful };
+    ghost lawful = { λ s. cache_lawful F.Field.meaning (λ _. Unit {0}) (λ f _. F.Field.lawful f) s tt };
 
-    // Answers a height from the table where that has one.
     fn ask(&mut self, at: Cell) -> Result<u16, Blank>
         ensures answer { result ≡ cache_meaning self.old at }
         ensures same { cache_meaning self.new ≡ cache_meaning self.old }
         ensures through { Through at self.old self.new }
     {
-        if !at.is_inside() {
-            return Err(Blank::new(at));
-        }
-        let _ = self.hold(at);
-        match self.table.get(at) {
-            Some(height) => Ok(height),
-            None => self.below.ask(at),
-        }
+        ask_through(&mut self.below, &mut self.table, at)
     }
 }

@@ -3,3 +3,4 @@
 
 pub mod cache;
 pub mod table;
+pub mod through;

@@ -2,7 +2,7 @@
 ghost use Rattle.std.specs.Prelude.{◌≡◌, ◌<◌, false, ◌≢◌};
 ghost use Rattle.grid.specs.declared.cell.Cell.{Cell};
 ghost use Rattle.grid.specs.declared.chunk.Chunk.{Chunk};
-ghost use Rattle.tables.specs.Tables.{holding, holds, index_of, sparing, stored, number_for, height_for};
+ghost use Rattle.tables.specs.Tables.{holding, holds, index_of, stored, number_for, height_for};
 
 use grid::cell::Cell;
 use grid::chunk::Chunk;
@@ -27,7 +27,7 @@ fn index(at: Cell) -> usize
 }
 
 impl Table {
-    #[tactic(auto, using(crate::proofs::Filling::none_there, crate::proofs::Filling::unwritten))]
+    #[tactic(auto, using(crate::proofs::Filling::none_held, crate::proofs::Filling::unwritten))]
     pub fn new() -> Table
         ensures empty { (k : Chunk) → holds result k ≡ false }
         ensures marked { (c : Cell) → stored result c ≡ 65535 }
@@ -38,7 +38,7 @@ impl Table {
         }
     }
 
-    #[tactic(auto, using(crate::proofs::Filling::none_there))]
+    #[tactic(auto, using(crate::proofs::Filling::none_held))]
     pub fn clear(&mut self)
         ensures empty { (k : Chunk) → holds self.new k ≡ false }
         ensures numbers { (c : Cell) → stored self.new c ≡ stored self.old c }
@@ -68,14 +68,6 @@ impl Table {
         ensures held { (k : Chunk) → holds self.new k ≡ holds self.old k }
     {
         self.heights[index(at)] = height.unwrap_or(MARK);
-    }
-
-    // Empties the slot of a chunk.
-    pub(crate) fn vacate(&mut self, chunk: Chunk)
-        ensures numbers { (c : Cell) → stored self.new c ≡ stored self.old c }
-        ensures held { (k : Chunk) → holds self.new k ≡ sparing chunk (holds self.old) k }
-    {
-        self.chunks[chunk.slot()] = None;
     }
 
     // Writes the address of a chunk whose numbers are there.
