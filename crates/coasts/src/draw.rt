@@ -4,7 +4,7 @@ ghost use Rattle.coasts.specs.Answers.{Drawn};
 
 use crate::text::{write_fills, write_refusal, write_row};
 use grid::field::Field;
-use grid::window::Window;
+use grid::window::{LONGEST_SIDE, Window};
 use std::alloc::{AllocError, Global};
 use worlds::world::World;
 
@@ -18,9 +18,9 @@ pub(crate) fn draw<F: Field + Drop>(
 {
     let mut text = String::new(heap);
     let mut drawing = World::open(field).begin(window);
-    let mut row = Vec::new(heap);
-    row.resize(usize::from(window.width()), 0)?;
-    let heights = row.as_mut_slice();
+    // An array and no vector, so that only the text can want memory.
+    let mut row = [0; LONGEST_SIDE as usize];
+    let heights = &mut row[..usize::from(window.width())];
     for _ in 0..window.height() {
         if let Err(refusal) = drawing.row(heights) {
             write_refusal(&mut text, refusal.number())?;

@@ -1,7 +1,10 @@
 // The kinds of coast, as piles over the noise.
-ghost use Rattle.std.specs.Prelude.{◌≡◌};
+ghost use Rattle.std.specs.Prelude.{◌≡◌, false};
+ghost use Rattle.grid.specs.declared.chunk.Chunk.{Chunk};
 ghost use Rattle.grid.specs.Piles.{step};
 ghost use Rattle.request.specs.declared.Kind.TheVariants.{Heights as KindHeights, Roads as KindRoads, Sites as KindSites};
+ghost use Rattle.tables.specs.Caches.{below_of, table_of};
+ghost use Rattle.tables.specs.Tables.{holds};
 ghost use Rattle.worlds.specs.Refusals.{looked};
 ghost use Rattle.coasts.specs.Kinds.{formula, rules_of};
 
@@ -31,7 +34,10 @@ pub type Sites = Cached<Heights, Settlement>;
 pub type Roads = Cached<Sites, Road>;
 
 fn cached<F: Field, R: Rule>(below: F, rule: R) -> Cached<F, R>
-    ensures { ⟦<Cached<F, R> as Field>⟧.meaning result ≡ step (R.Rule.stencil rule) (F.Field.meaning below) }
+    ensures meaning { ⟦<Cached<F, R> as Field>⟧.meaning result ≡ step (R.Rule.stencil rule) (F.Field.meaning below) }
+    // Making a pile asks nothing.
+    ensures unasked { below_of result.below ≡ below }
+    ensures empty { (k : Chunk) → holds (table_of result.below) k ≡ false }
 {
     Layer::new(Cache::new(below), rule)
 }
