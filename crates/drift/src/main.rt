@@ -60,8 +60,10 @@ fn read_count(rt: &(impl Env + AllocGlobal)) -> anyhow::Result<u16> {
 
 fn run(rt: &(impl Env + Print + AllocGlobal)) -> anyhow::Result<()> {
     let windows = read_count(rt)?;
-    let tally = drift(&mut heights(SEED), windows);
-    println!(rt; "{tally}")?;
+    let Tally { cells, checksum } = drift(&mut heights(SEED), windows);
+    // A line a write, so that what was printed before a failure is whole lines.
+    println!(rt; "cells {cells}")?;
+    println!(rt; "checksum {checksum}")?;
     Ok(())
 }
 

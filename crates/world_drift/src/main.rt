@@ -90,12 +90,15 @@ fn read_arguments(rt: &(impl Env + AllocGlobal)) -> anyhow::Result<(Coast, u16)>
 
 fn run(rt: &(impl Env + Print + AllocGlobal)) -> anyhow::Result<()> {
     let (coast, windows) = read_arguments(rt)?;
-    let (tally, fills) = match coast {
+    let (Tally { cells, checksum }, fills) = match coast {
         Coast::Heights => drift(heights(SEED), windows),
         Coast::Roads => drift(roads(SEED), windows),
         Coast::Dense => drift(Layer::new(Constant::new(1), Road {}), windows),
     };
-    println!(rt; "{tally}\nfills {fills}")?;
+    // A line a write, so that what was printed before a failure is whole lines.
+    println!(rt; "cells {cells}")?;
+    println!(rt; "checksum {checksum}")?;
+    println!(rt; "fills {fills}")?;
     Ok(())
 }
 

@@ -1,6 +1,10 @@
-use Rattle.std.proofs.Common.{◌≡◌, ◌+◌, ◌≢◌, All, length}
-use Rattle.std.specs.Iterator.Adapters.{take_count}
+use Rattle.std.proofs.Common.{◌≡◌, ℕ, ◌<◌, length, get_or, take}
+use Rattle.std.specs.Io.KnownBytes.{Consumes}
 use Rattle.sheet.proofs.read_line.Given as goal
 
-abbrev pub invariant-loop-byte : goal.invariant-loop-byte
-invariant-loop-byte g l = (length l.line.items + take_count l.byte-iterator ≡ 80) × All (λ b. b ≢ 10) l.line.items
+abbrev pub invariant-loop-count : goal.invariant-loop-count
+invariant-loop-count g l = record {
+  room : length l.line ≡ 80;
+  before : (k : ℕ) → k < l.count → get_or l.line k 0 ≡ 10 → ⊥;
+  taken : Consumes (g.R.Read.remaining l.initial.input) (g.R.Read.remaining l.input) (take l.count l.line);
+}
