@@ -37,6 +37,12 @@ span z n = (rest z + n + 7) / 8
 reached : (z : ℤ) (n a : ℕ) → 1 ≤ n → a < span z n → (i : ℕ) × (i < n) × ((rest z + i) / 8 ≡ a)
 reached z n a some h = let r = rest_lt z in (8 * a - rest z, omega arith, omega arith)
 
+pub cell_eq : {a b c d : ℤ} → a ≡ b → c ≡ d → ◌≡◌ {A = Cell} (record { x = a; y = c }) (record { x = b; y = d })
+cell_eq e f = cc
+
+pub chunk_eq : {a b c d : ℤ} → a ≡ b → c ≡ d → ◌≡◌ {A = Chunk} (record { x = a; y = c }) (record { x = b; y = d })
+chunk_eq e f = cc
+
 -- 57 numbers in a row lie in at most 8 chunks of a line, of which no two leave the same rest
 close : (z : ℤ) (i j n : ℕ) → n ≤ 57 → i < n → j < n → rest (eighth (z +ℤ pos i)) ≡ rest (eighth (z +ℤ pos j)) → eighth (z +ℤ pos i) ≡ eighth (z +ℤ pos j)
 close z i j n few hi hj same =
@@ -70,7 +76,7 @@ module _ (v : Window) where
   some_columns = let w = v.wide.0 in omega arith
 
   chunk_of_cell : (i j : ℕ) → chunk_of (cell_of v i j) ≡ chunk_at ((rest (corner_of v).x + i) / 8) ((rest (corner_of v).y + j) / 8)
-  chunk_of_cell i j = cc (eighth_east (corner_of v).x i, eighth_east (corner_of v).y j)
+  chunk_of_cell i j = chunk_eq (eighth_east (corner_of v).x i) (eighth_east (corner_of v).y j)
 
   differ : (p q : ℕ) → p < rows * columns → q < rows * columns → nth_chunk p ≡ nth_chunk q → p ≡ q
   differ p q _ _ e =
@@ -116,6 +122,10 @@ module _ (v : Window) where
       let y = close (corner_of v).y b d (height_of v) v.high.1 b-in d-in rests.1 in
       cc
 
+-- the column and the row of a place, which counts to 63 and then again
+pub places : (p : ℕ) → (p % 8 ≡ p % 64 % 8) × (p / 8 % 8 ≡ p % 64 / 8)
+places p = (omega arith, omega arith)
+
 -- ---- the 64 cells of a chunk
 
 eighth_of : (q : ℤ) (i : ℕ) → i < 8 → eighth ((pos 8 *ℤ q) +ℤ pos i) ≡ q
@@ -134,7 +144,7 @@ pub slot_lt : (k : Chunk) → slot_of k < 64
 slot_lt k = omega (arith, rest_lt k.x, rest_lt k.y)
 
 pub chunk_cell_in : (k : Chunk) (p : ℕ) → p < 64 → chunk_of (cell_in k p) ≡ k
-chunk_cell_in k p h = λ t. record { x = eighth_of k.x (p % 8) (omega arith) t; y = eighth_of k.y (p / 8) (omega arith) t }
+chunk_cell_in k p h = chunk_eq (eighth_of k.x (p % 8) (omega arith)) (eighth_of k.y (p / 8) (omega arith))
 
 pub place_cell_in : (k : Chunk) (p : ℕ) → p < 64 → place_of (cell_in k p) ≡ p
 place_cell_in k p h = omega (arith, rest_of k.x (p % 8) (omega arith), rest_of k.y (p / 8) (omega arith))
@@ -144,12 +154,12 @@ cell_in_place c =
     let a = rest_lt c.x in
     let x : (cell_in (chunk_of c) (place_of c)).x ≡ c.x = omega (arith, ints, parts c.x) in
     let y : (cell_in (chunk_of c) (place_of c)).y ≡ c.y = omega (arith, ints, parts c.y) in
-    λ t. record { x = x t; y = y t }
+    cell_eq x y
 
 -- ---- addresses
 
 pub same_chunk_true : (j k : Chunk) → same_chunk j k ≡ true → j ≡ k
-same_chunk_true j k h = let p = and_parts _ _ h in λ t. record { x = (Decides-int_eq j.x k.x).0 p.0 t; y = (Decides-int_eq j.y k.y).0 p.1 t }
+same_chunk_true j k h = let p = and_parts _ _ h in chunk_eq ((Decides-int_eq j.x k.x).0 p.0) ((Decides-int_eq j.y k.y).0 p.1)
 
 pub same_chunk_refl : (k : Chunk) → same_chunk k k ≡ true
 same_chunk_refl k = and_from _ _ ((Decides-int_eq k.x k.x).1 refl) ((Decides-int_eq k.y k.y).1 refl)

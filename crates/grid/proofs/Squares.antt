@@ -7,6 +7,7 @@ use Rattle.std.proofs.lemmas.Bool.{cases_eq}
 use Rattle.grid.specs.declared.cell.Cell.{Cell}
 use Rattle.grid.specs.Piles.{Squares, area, north_west, nth_cell, side, square}
 use Rattle.grid.specs.Places.{Before, distance}
+use Rattle.grid.proofs.Chunks.{cell_eq}
 use Rattle.grid.proofs.Counting.{all_numbered, among_found, once}
 
 -- ---- one coordinate
@@ -51,7 +52,7 @@ module _ (r : ℕ) (c : Cell) where
   found d h =
       let (i, west, x) = reach c.x d.x r (omega arith) in
       let (j, north, y) = reach c.y d.y r (omega arith) in
-      (j * side r + i, mul-add-lt j (side r) i (side r) north west, rw (mod-mul-add j (side r) i west, div-mul-add j (side r) i west) (λ t. record { x = x t; y = y t }))
+      (j * side r + i, mul-add-lt j (side r) i (side r) north west, rw (mod-mul-add j (side r) i west, div-mul-add j (side r) i west) (cell_eq x y))
 
 pub squares : Squares
 unfolding square

@@ -1,24 +1,14 @@
 -- A walk over the cells of a square that notes their heights. Assumes nothing.
 use Rattle.std.proofs.Common.{◌≡◌, ℕ, ◌+◌, ◌*◌, ◌<◌, ◌≤◌, true, ◌≢◌, List, length, get_or, take, set, Ok, Err, ap, ◌∙◌, sym, arith, get_or-take, length-take-le, below_more}
 use Rattle.std.proofs.lemmas.Nat.{div-mul-add, mod-mul-add, mul-add-lt, mul-le}
-use Rattle.std.proofs.lemmas.List.FromFn.{get_or-map-range_with_len}
 use Rattle.std.proofs.lemmas.List.Elements.{All-from_get_or}
 use Rattle.std.proofs.lemmas.List.{get_or-set_other, get_or-set_same}
 use Rattle.grid.specs.declared.blank.Blank.{Blank}
 use Rattle.grid.specs.declared.cell.Cell.{Cell}
 use Rattle.grid.specs.Meanings.{Height, Lawful, Meaning, risen}
-use Rattle.grid.specs.Piles.{Stencil, Whole, area, north_west, nth_cell, side, square, step}
+use Rattle.grid.specs.Piles.{Stencil, Whole, area, north_west, nth_cell, side, step}
 use Rattle.grid.specs.Places.{cell_at, inside}
-use Rattle.grid.proofs.Steps.{square_length}
-use Rattle.layers.proofs.Surveys.{survey_all, survey_first}
-
--- cell number k of the square of radius r around c
-abbrev pub nth : ℕ → Cell → ℕ → Cell
-nth r c = nth_cell (side r) (north_west r c)
-
-square_at : (r : ℕ) (c : Cell) (k : ℕ) (d : Cell) → k < area r → get_or (square r c) k d ≡ nth r c k
-unfolding square
-square_at r c k d l = get_or-map-range_with_len (nth r c) 0 (area r) k k d l (omega arith)
+use Rattle.layers.proofs.Surveys.{nth, step_all, step_first}
 
 -- the cell in this column and row is the cell of this number
 pub nth_at : (r : ℕ) (c : Cell) (column row n : ℕ) → column < side r → n ≡ row * side r + column → nth r c n ≡ cell_at (north_west r c) column row
@@ -45,19 +35,12 @@ walked_more m r c n hs h l old new =
 module _ (s : Stencil) (m : Meaning) (c : Cell) (within : inside c ≡ true) where
   -- the walk ended at a blank
   pub walked_to_blank : (n : ℕ) (hs : List ℕ) (b : Blank) → n < area s.radius → Walked m s.radius c n hs → m (nth s.radius c n) ≡ Err b → step s m c ≡ Err (risen b)
-  unfolding step
-  walked_to_blank n hs b l walked blank =
-      let size = square_length s.radius c in
-      let found = survey_first m (square s.radius c) n b (omega arith) (λ k d j. (get_or hs k 0, ap m (square_at s.radius c k d (omega arith)) ∙ walked k j)) (λ d. ap m (square_at s.radius c n d l) ∙ blank) in
-      rw (within, found)
+  walked_to_blank n hs b l walked = step_first s m c within n b l (λ k j. (get_or hs k 0, walked k j))
 
   -- the walk went through
   pub walked_through : (n : ℕ) (hs : List ℕ) (h : ℕ) → n ≡ area s.radius → n ≤ length hs → Lawful m → Walked m s.radius c n hs → (Whole s.radius (take n hs) → h ≡ s.value (take n hs)) → step s m c ≡ Ok h
-  unfolding step
   walked_through n hs h full long law walked told =
-      let size = square_length s.radius c in
       let front = length-take-le n hs long in
       let noted = λ (k : ℕ) (l : k < n). walked k l ∙ ap Ok (sym (get_or-take n hs k 0 l)) in
-      let found = survey_all m (square s.radius c) (take n hs) (omega arith) (λ k d j. ap m (square_at s.radius c k d (omega arith)) ∙ noted k (omega arith)) in
       let whole : Whole s.radius (take n hs) = record { size = front ∙ full; heights = All-from_get_or Height (take n hs) 0 (λ k l. law.heights _ _ (noted k (omega arith))) } in
-      rw (within, found, told whole)
+      rw (told whole) (step_all s m c within (take n hs) (front ∙ full) (λ k l. noted k (omega arith)))

@@ -50,7 +50,7 @@ impl<F: Field, R: Rule> Layer<F, R> {
 impl<F: Field, R: Rule> Field for Layer<F, R> {
     ghost meaning = { layer_meaning R.Rule.stencil F.Field.meaning };
 
-    ghost lawful = { layer_lawful R.Rule.stencil F.Field.meaning R.Rule.fit F.Field.lawful };
+    ghost lawful = { λ s. layer_lawful R.Rule.stencil F.Field.meaning (λ _. Unit {0}) R.Rule.fit (λ f _. F.Field.lawful f) s tt };
 
     // Asks the cells of the square in reading order, up to the first blank.
     fn ask(&mut self, at: Cell) -> Result<u16, Blank> {

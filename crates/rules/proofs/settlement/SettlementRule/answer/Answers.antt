@@ -3,7 +3,7 @@ use Rattle.std.proofs.lemmas.Iterator.{YieldsList-from_slice}
 use Rattle.std.proofs.lemmas.Iterator.Consumers.{YieldsList-from_enumerate}
 use Rattle.std.proofs.lemmas.Iterator.Search.{all_from_yields_List}
 use Rattle.rules.specs.Settlements.{settles}
-use Rattle.rules.proofs.Settling.{passes, settles_by_cells}
+use Rattle.rules.proofs.Settling.{cell_passes, settles_by_cells}
 use Rattle.rules.proofs.settlement.SettlementRule.answer.Goals as goal
 
 pub returns : goal.returns
@@ -11,7 +11,7 @@ returns c _ =
     let hs = c.args.square.now in
     let e : c.all-settles.result ≡ settles hs =
     all_from_yields_List
-    (passes hs)
+    (cell_passes hs)
     _
     _
     _
