@@ -1,9 +1,9 @@
 // A cache: a chunk table over any field, with the very meaning of that field.
-ghost use Rattle.std.specs.Prelude.{◌≡◌, true, false, not, ◌≢◌};
-ghost use Rattle.grid.specs.Places.{chunk_of, slot_of};
+ghost use Rattle.std.specs.Prelude.{◌≡◌, true, false, not, ◌&&◌, ◌≢◌};
+ghost use Rattle.grid.specs.Places.{chunk_of, inside, slot_of};
 ghost use Rattle.grid.specs.declared.cell.Cell.{Cell};
 ghost use Rattle.grid.specs.declared.chunk.Chunk.{Chunk};
-ghost use Rattle.tables.specs.Tables.{Right, holding, holds, stored};
+ghost use Rattle.tables.specs.Tables.{Right, holds, stored, touch};
 
 use crate::table::Table;
 use crate::through::{ask_through, hold};
@@ -32,15 +32,16 @@ impl<F: Field> Cache<F> {
         }
     }
 
-    // Sees to it that the chunk of this cell is held, and says whether that took a fill.
+    // Sees to it that the chunk of a cell inside the rim is held, and says whether that took a fill.
     pub fn hold(&mut self, at: Cell) -> bool
-        ensures filled { result ≡ not (holds (table_of self.old) (chunk_of at)) }
+        ensures filled { result ≡ (inside at && not (holds (table_of self.old) (chunk_of at))) }
         ensures same { cache_meaning self.new ≡ cache_meaning self.old }
-        ensures held { (k : Chunk) → holds (table_of self.new) k ≡ holding (chunk_of at) (holds (table_of self.old)) k }
+        ensures held { (k : Chunk) → holds (table_of self.new) k ≡ touch at (holds (table_of self.old)) k }
         ensures others { (c : Cell) → (slot_of (chunk_of c) ≢ slot_of (chunk_of at)) → stored (table_of self.new) c ≡ stored (table_of self.old) c }
+        ensures beyond { inside at ≡ false → self.new ≡ self.old }
         ensures stays { holds (table_of self.old) (chunk_of at) ≡ true → self.new ≡ self.old }
     {
-        hold(&mut self.below, &mut self.table, at)
+        at.is_inside() && hold(&mut self.below, &mut self.table, at)
     }
 
     // Empties the table.
