@@ -24,7 +24,7 @@ use Rattle.tracks.specs.declared.call.Call.{Call}
 use Rattle.tracks.specs.declared.call.Call.TheVariants.{Look, Clear, Begin, Row, Finish}
 use Rattle.tracks.specs.declared.run.Phase.{Phase}
 use Rattle.tracks.specs.declared.run.Phase.TheVariants.{Alone, Open}
-use Rattle.tracks.specs.Promises.{Fair, Faithful, Holds, Sound, Stands, stage_of, table_in, Turns}
+use Rattle.tracks.specs.Promises.{Draws, Fair, Faithful, Holds, Sound, Stands, stage_of, table_in, Turns}
 use Rattle.tracks.specs.Runs.{Does, Runs, alone, drawing}
 use Rattle.tracks.proofs.Fairness.{drawing_between, fair_between, fair_finish, fair_other}
 use Rattle.tracks.proofs.Tellings.{more_room, runs_more}
@@ -79,22 +79,28 @@ module _ {F : Type 0} {g : Ghosts F} (m : Meaning) where
   )
 
   -- a row into n places, or as many of them as serve
-  pub turns_row : (n : ℕ) (i j : Journal) {d e : Drawing F g} (out p : List ℕ) (r : RowAnswer) →
+  pub draws_row : (n : ℕ) (i j : Journal) {d e : Drawing F g} (out p : List ℕ) (r : RowAnswer) →
       Placed (window_of d) (next_of d) (length out) r → Answers (world_meaning (world_of d)) (window_of d) (next_of d) r p → Past (window_of d) r out p → next_of e ≡ next_after r (next_of d) → window_of e ≡ window_of d →
       ((before during : Journal) → Underway m d before during → Underway m e before (during ++ told_by m (window_of d) (next_of d) r)) → length out ≡ min n LONGEST_SIDE →
-      j ≡ i ++ shown (window_of d) (next_of d) p r → Turns m (Open d) (Row n) i (Open e) j
-  turns_row n i j {d} {e} out p r placed answers past after window history room told s =
+      j ≡ i ++ shown (window_of d) (next_of d) p r → (before during : Journal) → Draws m n before during d i (Open e) j
+  draws_row n i j {d} {e} out p r placed answers past after window history room told before during u =
       let v = window_of d in
       let y = next_of d in
-      let answer : Answers m v y r p = subst (λ (x : Meaning). Answers x v y r p) s.0.3.means answers in
-      let es = told_by m v y r in
-      let is : j ≡ i ++ es = told ∙ ap (λ x. i ++ x) (shown_told m v y p r (rw past.0 placed) answer) in
+      let answer : Answers m v y r p = subst (λ (x : Meaning). Answers x v y r p) u.means answers in
       let next : drawing (window_of e) (next_of e) ≡ drawing v (next_after r y) = λ t. drawing (window t) (after t) in (
-        es,
-        is,
-        (r, more_room m v y _ n r room (record { placed = placed; heights = λ i l. (get_or p i 0, answer.0 i l); blank = answer.1 }), refl, next),
-        rw is (sound_drawing d e i es s.0 window (history s.0.0 s.0.1 s.0.3) s.1),
+        told_by m v y r,
+        told ∙ ap (λ x. i ++ x) (shown_told m v y p r (rw past.0 placed) answer),
+        (r, more_room m v y _ n r room (record { placed = placed; heights = λ k l. (get_or p k 0, answer.0 k l); blank = answer.1 }), refl, next),
+        history before during u,
+        window,
       )
+
+  pub turns_row : (n : ℕ) (i j : Journal) (d : Drawing F g) (q : Phase F g) → ((before during : Journal) → Draws m n before during d i q j) →
+      Turns m (Open d) (Row n) i q j
+  turns_row n i j d (Alone w) draws s = absurd (draws [] [])
+  turns_row n i j d (Open e) draws s =
+      let (es, is, does, u, window) = draws s.0.0 s.0.1 s.0.3 in
+      (es, is, does, rw is (sound_drawing d e i es s.0 window u s.1))
 
   pub turns_passed : (k : Call) (i j : Journal) (d : Drawing F g) → ((c : Cell) × (k ≡ Look c)) ⊎ ((k ≡ Clear) ⊎ ((w : Window) × (k ≡ Begin w))) → j ≡ i ++ Passed ∷ [] →
       Turns m (Open d) k i (Open d) j

@@ -8,6 +8,7 @@
 --     Stands m p j        the world means m and fits the journal j
 --     Sound m p j         and the fills in the journal are fair
 --     Turns m p c i q j   of a sound world: the call c leads from the phase p with the journal i to q with j
+--     Draws m n before during d i q j     the same of a row with n places, where the drawing d began after the journal `before`: it stays open
 --     Faithful m cs p j   on a world just opened that means m, the calls cs told j and led to p
 --     Replayed t run      what a run of the track t gives
 use Rattle.std.specs.Prelude.{◌≡◌, ℕ, ◌*◌, ◌≤◌, true, ◌⊎◌, ◌↔◌, List, ◌∷◌, ◌++◌, length, take, vec_items, vec_capacity}
@@ -22,12 +23,14 @@ use Rattle.grid.specs.Piles.{Agree, Stencil, carry, margin}
 use Rattle.grid.specs.Places.{chunk_of}
 use Rattle.tables.specs.declared.table.Table.{Table}
 use Rattle.tables.specs.Tables.{holds, mark, stored}
+use Rattle.worlds.specs.declared.drawing.Drawing.{Drawing}
 use Rattle.worlds.specs.declared.event.Event.{Event}
 use Rattle.worlds.specs.declared.event.Event.TheVariants.{Asked, Begun, Cleared, Finished, Passed, Refused, Wrote}
 use Rattle.worlds.specs.Drawings.{Underway, next_of, window_of, world_of}
 use Rattle.worlds.specs.Journals.{Held, Journal, Missing, Touched}
 use Rattle.worlds.specs.Worlds.{Fits, table_of}
 use Rattle.tracks.specs.declared.call.Call.{Call}
+use Rattle.tracks.specs.declared.call.Call.TheVariants.{Row}
 use Rattle.tracks.specs.declared.replay.Track.{Track}
 use Rattle.tracks.specs.declared.run.Phase.{Phase}
 use Rattle.tracks.specs.declared.run.Phase.TheVariants.{Alone, Open}
@@ -81,6 +84,12 @@ module _ {F : Type 0} {g : Ghosts F} where
 
   abbrev pub Turns : Meaning → Phase F g → Call → Journal → Phase F g → Journal → Type 0
   Turns m p c i q j = Sound m p i → (es : Journal) × (j ≡ i ++ es) × Does m (stage_of p) c es (stage_of q) × Sound m q j
+
+  abbrev pub Draws : Meaning → ℕ → Journal → Journal → Drawing F g → Journal → Phase F g → Journal → Type 0
+  Draws m n before during d i (Alone w) j = ⊥
+  Draws m n before during d i (Open e) j =
+      Underway m d before during →
+      (es : Journal) × (j ≡ i ++ es) × Does m (stage_of (Open d)) (Row n) es (stage_of (Open e)) × Underway m e before (during ++ es) × (window_of e ≡ window_of d)
 
   pub record Faithful (m : Meaning) (cs : List Call) (p : Phase F g) (j : Journal) : Type 0 where
     pub answers : Runs m alone cs j (stage_of p)

@@ -1,11 +1,11 @@
 // A row of an open drawing, as a call of a track.
 ghost use Rattle.std.specs.Prelude.{◌≡◌};
 ghost use Rattle.grid.specs.Meanings.{Meaning};
-ghost use Rattle.tracks.specs.Promises.{Turns};
+ghost use Rattle.tracks.specs.Promises.{Draws};
 ghost use Rattle.tracks.specs.Room.{HasRoom, UsesRoom};
+ghost use Rattle.worlds.specs.Journals.{Journal};
 ghost use Rattle.worlds.specs.Rows.{column_of};
 
-use crate::call::Call;
 use crate::run::Phase;
 use crate::tell::Row;
 use grid::cell::Cell;
@@ -27,7 +27,7 @@ impl<F: Field> Phase<F> {
     pub(crate) fn draw(mut drawing: Drawing<F>, places: usize, journal: &mut Vec<Event>) -> Phase<F>
         // Room for what a call tells, and its use: as turn.rt says, no invariant.
         requires { HasRoom journal.old }
-        ensures law { (m : Meaning) → Turns m (Phase.Open drawing) (Call.Row places) journal.old.items result journal.new.items }
+        ensures law { (m : Meaning) (before during : Journal) → Draws m places before during drawing journal.old.items result journal.new.items }
         ensures room { UsesRoom journal.old journal.new }
     {
         let window = drawing.window();

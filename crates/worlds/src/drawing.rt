@@ -4,11 +4,12 @@ ghost use Rattle.grid.specs.declared.chunk.Chunk.{Chunk};
 ghost use Rattle.grid.specs.Counts.{Counts};
 ghost use Rattle.grid.specs.Meanings.{Meaning};
 ghost use Rattle.grid.specs.Windows.{height_of, width_of};
+ghost use Rattle.tables.specs.Caches.{Through};
 ghost use Rattle.worlds.specs.Drawings.{GoesOn, Underway, fills_of, next_of, window_of, world_of};
 ghost use Rattle.worlds.specs.Journals.{Held, Journal, Missing, OfWindow, Touched};
 ghost use Rattle.worlds.specs.Refusals.{looked};
 ghost use Rattle.worlds.specs.Rows.{Answers, Past, Placed, next_after, told_by};
-ghost use Rattle.worlds.specs.Worlds.{Fits, held_by, world_meaning};
+ghost use Rattle.worlds.specs.Worlds.{Fits, cache_of, held_by, world_meaning};
 ghost use Rattle.worlds.specs.declared.event.Event.TheVariants.{Asked, Begun, Finished};
 ghost use Rattle.worlds.specs.declared.refusal.RowRefusal.TheVariants.{Full, Short};
 
@@ -50,6 +51,7 @@ impl<F: Field> Drawing<F> {
     // The height of one cell of the window.
     fn ask(&mut self, at: Cell) -> Result<u16, BlankFault>
         ensures answer { result ≡ looked at (world_meaning (world_of self.old) at) }
+        ensures table { Through at (cache_of (world_of self.old)) (cache_of (world_of self.new)) }
         ensures next { next_of self.new ≡ next_of self.old }
         ensures goes { OfWindow (window_of self.old) at → (m : Meaning) → GoesOn self.old (Asked at (m at) ∷ []) self.new }
     {

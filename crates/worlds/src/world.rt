@@ -1,9 +1,9 @@
 // Worlds: a field behind a chunk table of its own.
-ghost use Rattle.std.specs.Prelude.{◌≡◌, false, not, ◌&&◌, [], ◌∷◌, ◌++◌};
+ghost use Rattle.std.specs.Prelude.{◌≡◌, true, false, not, ◌&&◌, ◌≢◌, [], ◌∷◌, ◌++◌};
 ghost use Rattle.grid.specs.declared.cell.Cell.{Cell};
 ghost use Rattle.grid.specs.declared.chunk.Chunk.{Chunk};
 ghost use Rattle.grid.specs.Meanings.{Meaning};
-ghost use Rattle.grid.specs.Places.{chunk_of, inside};
+ghost use Rattle.grid.specs.Places.{chunk_of, inside, slot_of};
 ghost use Rattle.tables.specs.Caches.{Through};
 ghost use Rattle.tables.specs.Tables.{stored, touch};
 ghost use Rattle.worlds.specs.Journals.{Journal};
@@ -51,6 +51,9 @@ impl<F: Field> World<F> {
         ensures filled { result ≡ (inside at && not (held_by self.old (chunk_of at))) }
         ensures same { world_meaning self.new ≡ world_meaning self.old }
         ensures held { (k : Chunk) → held_by self.new k ≡ touch at (held_by self.old) k }
+        ensures others { (c : Cell) → (slot_of (chunk_of c) ≢ slot_of (chunk_of at)) → stored (table_of self.new) c ≡ stored (table_of self.old) c }
+        ensures beyond { inside at ≡ false → self.new ≡ self.old }
+        ensures stays { held_by self.old (chunk_of at) ≡ true → self.new ≡ self.old }
     {
         at.is_inside() && self.cache.hold(at)
     }

@@ -1,8 +1,8 @@
-use Rattle.tracks.proofs.Standing.{turns_finish, turns_passed}
+use Rattle.tracks.proofs.Standing.{turns_finish, turns_passed, turns_row}
 use Rattle.tracks.proofs.run.Phase.call_drawing.Goals as goal
 
 pub returns-in-Row-clause-law : goal.returns-in-Row-clause-law
-returns-in-Row-clause-law g c = λ m. rw c.in-Row.is (c.draw.ensures.law m)
+returns-in-Row-clause-law g c = λ m. rw c.in-Row.is (turns_row m _ _ _ c.args.drawing c.draw.result (c.draw.ensures.law m))
 
 pub returns-in-Finish-clause-law : goal.returns-in-Finish-clause-law
 returns-in-Finish-clause-law g c = λ m. rw c.in-Finish.is (turns_finish m _ _ c.finish-world.ensures.world (c.finish-world.ensures.exact m) (c.finish-world.ensures.holds m) (c.finish-world.ensures.history m) c.push_reserved.ensures.items)

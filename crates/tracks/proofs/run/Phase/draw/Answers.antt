@@ -3,7 +3,7 @@ use Rattle.grid.specs.declared.window.TheConstants.{LONGEST_SIDE}
 use Rattle.worlds.specs.declared.event.Event.{Event}
 use Rattle.worlds.specs.declared.refusal.RowRefusal.TheVariants.{Blank, Full, Short}
 use Rattle.worlds.specs.Drawings.{next_of, window_of}
-use Rattle.tracks.proofs.Standing.{turns_row}
+use Rattle.tracks.proofs.Standing.{draws_row}
 use Rattle.tracks.proofs.Tells.{shown, shown_blank, shown_refused, shown_whole}
 use Rattle.tracks.proofs.run.Phase.draw.Goals as goal
 use Rattle.tracks.proofs.run.Phase.draw.Goals.{in-Ok, in-Err-Blank, in-Err-Full}
@@ -28,4 +28,4 @@ returns-clause-law g c = λ m.
     ] in
     let few : min c.min-count.result LONGEST_SIDE ≡ min c.args.places LONGEST_SIDE = omega (arith, c.min-count.ensures) in
     let row = c.row.ensures in
-    turns_row m c.args.places past (vec_items c.match-row.journal) _ out c.row.result row.placed row.answer row.past row.next (row.goes m).window (row.history m) (length-take c.min-count.result (replicate LONGEST_SIDE 0) ∙ few) told
+    draws_row m c.args.places past (vec_items c.match-row.journal) _ out c.row.result row.placed row.answer row.past row.next (row.goes m).window (row.history m) (length-take c.min-count.result (replicate LONGEST_SIDE 0) ∙ few) told
