@@ -55,7 +55,7 @@ impl<F: Field> World<F> {
         ensures beyond { inside at ≡ false → self.new ≡ self.old }
         ensures stays { held_by self.old (chunk_of at) ≡ true → self.new ≡ self.old }
     {
-        at.is_inside() && self.cache.hold(at)
+        self.cache.hold(at)
     }
 
     // Empties the table.
