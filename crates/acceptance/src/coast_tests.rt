@@ -1,6 +1,7 @@
 use crate::reference::REFERENCE;
 use coasts::answer::answer;
 use coasts::kinds::look;
+use coasts::text::{write_fills, write_refusal, write_row};
 use grid::cell::Cell;
 use request::Kind;
 use std::process::Abort;
@@ -23,6 +24,17 @@ fn looks_at_the_kinds(rt: HostRuntime) {
     assert_eq!(rt; look(Kind::Heights, 9, Cell { x: 100, y: -100 }), Ok(1828));
     assert_eq!(rt; look(Kind::Sites, 0, Cell { x: 0, y: -1 }), Ok(1));
     assert_eq!(rt; look(Kind::Roads, 0, Cell { x: 0, y: -3 }), Ok(1));
+}
+
+#[test]
+fn lines_of_an_answer(rt: HostRuntime) -> Result<(), Fail> {
+    let mut text = String::new(rt.alloc());
+    write_row(&mut text, &[3618, 0, 65_534])?;
+    write_row(&mut text, &[7])?;
+    write_fills(&mut text, 64)?;
+    write_refusal(&mut text, 6)?;
+    assert_eq!(rt; text.as_str(), "3618 0 65534\n7\nfills 64\nrefused 6\n");
+    Ok(())
 }
 
 #[test]

@@ -1,3 +1,4 @@
 mod Drawings
 pub mod Plans
-mod Rows
+pub mod Rows
+mod Texts

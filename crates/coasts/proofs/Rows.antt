@@ -1,6 +1,7 @@
 -- What `row` said of a row, and the text of the rows, by what is left of them. Assumes nothing.
-use Rattle.std.proofs.Common.{◌≡◌, ℕ, suc, ◌+◌, ◌-◌, ◌<◌, ◌≤◌, List, [], ◌∷◌, ◌++◌, length, get_or, Ok, Err, sym, refl, ap, ◌∙◌, append_assoc, arith}
+use Rattle.std.proofs.Common.{◌≡◌, ℕ, suc, ◌+◌, ◌-◌, ◌<◌, ◌≤◌, List, [], ◌∷◌, ◌++◌, length, get_or, IfOk, Ok, Err, Result, sym, refl, ap, ◌∙◌, append_assoc, arith}
 use Rattle.std.specs.List.{range_with_len}
+use Rattle.std.specs.Result.{result_or}
 use Rattle.std.proofs.lemmas.List.FromFn.{get_or-map-range_with_len, length-map-range_with_len}
 use Rattle.grid.specs.declared.blank.Blank.{Blank}
 use Rattle.grid.specs.declared.cell.Cell.{Cell}
@@ -16,6 +17,11 @@ use Rattle.worlds.specs.Rows.{Answers, Placed, column_of}
 use Rattle.worlds.proofs.Rowing.{column_is}
 use Rattle.coasts.specs.Answers.{drawn, row_cells}
 use Rattle.coasts.specs.Texts.{fills_text, refusal_text, row_text}
+
+-- where `r.or(Err(e))` is `Ok`, so was `r`
+pub went_well : {T E D P : Type 0} (r : Result T E) (x : T) (e : D) → Ok x ≡ result_or r (Err e) → IfOk r (λ _. P) → P
+went_well (Ok y) x e h p = p
+went_well (Err y) x e h p = cc
 
 -- ---- one row
 
@@ -49,10 +55,10 @@ module _ (m : Meaning) (v : Window) (j : ℕ) (p : List ℕ) where
 -- ---- the text of the rows
 
 -- the numbers from i up to n, of which one is taken
-one_less : (i n : ℕ) → i < n → range_with_len i (n - i) ≡ i ∷ range_with_len (i + 1) (n - (i + 1))
+pub one_less : (i n : ℕ) → i < n → range_with_len i (n - i) ≡ i ∷ range_with_len (i + 1) (n - (i + 1))
 one_less i n h = let e : n - i ≡ suc (n - (i + 1)) = omega arith in ap (range_with_len i) e
 
-none_left : (i n : ℕ) → n ≤ i → range_with_len i (n - i) ≡ []
+pub none_left : (i n : ℕ) → n ≤ i → range_with_len i (n - i) ≡ []
 none_left i n h = let z : n - i ≡ 0 = omega arith in ap (range_with_len i) z
 
 module _ (m : Meaning) (v : Window) (n : ℕ) where

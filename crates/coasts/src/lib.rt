@@ -7,4 +7,4 @@ pub mod kinds;
 pub mod laws;
 pub mod plan;
 pub mod refusal;
-mod text;
+pub mod text;

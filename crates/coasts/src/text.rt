@@ -15,7 +15,7 @@ fn write_others(text: &mut String, heights: &[u16]) -> Result<(), AllocError>
 }
 
 // The heights parted by one space.
-pub(crate) fn write_row(text: &mut String, heights: &[u16]) -> Result<(), AllocError>
+pub fn write_row(text: &mut String, heights: &[u16]) -> Result<(), AllocError>
     ensures { OnOk result (string_bytes text.new ≡ string_bytes text.old ++ row_text heights.now) }
 {
     match heights {
@@ -28,14 +28,14 @@ pub(crate) fn write_row(text: &mut String, heights: &[u16]) -> Result<(), AllocE
     }
 }
 
-pub(crate) fn write_fills(text: &mut String, fills: u32) -> Result<(), AllocError>
+pub fn write_fills(text: &mut String, fills: u32) -> Result<(), AllocError>
     ensures { OnOk result (string_bytes text.new ≡ string_bytes text.old ++ fills_text fills) }
 {
     writeln!(text, "fills {fills}")
 }
 
 // A refusal is printed by its number, which its type gives. A `Display` for each type would say this line several times.
-pub(crate) fn write_refusal(text: &mut String, number: u8) -> Result<(), AllocError>
+pub fn write_refusal(text: &mut String, number: u8) -> Result<(), AllocError>
     ensures { OnOk result (string_bytes text.new ≡ string_bytes text.old ++ refusal_text number) }
 {
     writeln!(text, "refused {number}")

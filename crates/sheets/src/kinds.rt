@@ -1,6 +1,6 @@
 // The kinds of coast that `sheet` draws.
 ghost use Rattle.std.specs.Prelude.{◌≡◌};
-ghost use Rattle.std.specs.Option.{is_some, option_map};
+ghost use Rattle.std.specs.Option.{option_map};
 ghost use Rattle.coasts.specs.Kinds.{formula};
 ghost use Rattle.sheets.specs.Kinds.{rules_of};
 
@@ -15,13 +15,6 @@ use request::Kind;
 
 // Smoothing over a cache over a field.
 pub type Smoothed<F> = Cached<F, Smoothing>;
-
-// Whether this kind is built. `cell` has the same two in its arms, each of which makes a pile of its own type.
-pub(crate) fn is_built(kind: Kind) -> bool
-    ensures { result ≡ is_some (rules_of kind) }
-{
-    matches!(kind, Kind::Raw | Kind::Heights)
-}
 
 // What a kind answers at one cell, if the kind is built.
 #[tactic(auto, unfolding(grid::specs::Piles::carry))]

@@ -2,5 +2,6 @@
 #![tactic(auto)]
 
 pub mod answer;
+mod draw;
 pub mod error;
 pub mod kinds;
