@@ -101,6 +101,18 @@ fn answers_of_the_reference(rt: HostRuntime) -> Result<(), Fail> {
 }
 
 #[test]
+fn wide_windows_of_heights(rt: HostRuntime) -> Result<(), Fail> {
+    // The first is drawn through a world, since its rows outrun a table; of the second there is too little.
+    let lines: [&[u8]; 2] = [b"heights 5 0 0 56 8\n", b"heights 5 0 0 57 1\n"];
+    for line in lines {
+        let text = answer(rt.alloc(), line)?;
+        let expected = coasts::answer::answer(rt.alloc(), line)?;
+        assert_eq!(rt; text.as_str(), expected.as_str());
+    }
+    Ok(())
+}
+
+#[test]
 fn kinds_that_are_not_built(rt: HostRuntime) {
     let lines: [&[u8]; 2] = [b"sites 0 0 0 4 1\n", b"roads 0 0 0 4 1\n"];
     for line in lines {
