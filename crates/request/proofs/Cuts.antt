@@ -9,9 +9,13 @@ module _ (end : ℕ) where
   abbrev pub Lacks : List ℕ → Type 0
   Lacks bs = AllByRecursion (λ b. b ≡ end → ⊥) bs
 
+  -- the parts of a slice before and after a place
+  pub cut_here : (bs : List ℕ) (i : ℕ) → i < length bs → get_or bs i 0 ≡ end → bs ≡ take (i - 0) bs ++ end ∷ take (length bs - (i + 1)) (drop (i + 1) bs)
+  cut_here bs i h e = let z : i - 0 ≡ i = omega arith in cc (z, drop_more bs i 0 h, take_rest bs (i + 1), take-append-drop i bs, e)
+
   -- a slice cut at its first `end`
-  pub cut_here : (bs : List ℕ) (i : ℕ) → i < length bs → get_or bs i 0 ≡ end → ((k : ℕ) → k < i → get_or bs k 0 ≡ end → ⊥) → (bs ≡ take i bs ++ end ∷ take (length bs - (i + 1)) (drop (i + 1) bs)) × Lacks (take i bs)
-  cut_here bs i h e before = (
+  pub cut_first : (bs : List ℕ) (i : ℕ) → i < length bs → get_or bs i 0 ≡ end → ((k : ℕ) → k < i → get_or bs k 0 ≡ end → ⊥) → (bs ≡ take i bs ++ end ∷ take (length bs - (i + 1)) (drop (i + 1) bs)) × Lacks (take i bs)
+  cut_first bs i h e before = (
     cc (drop_more bs i 0 h, take_rest bs (i + 1), take-append-drop i bs, e),
     All-from_get_or (λ b. b ≡ end → ⊥) (take i bs) 0 (λ k l. search (rules, get_or-take, before)),
   )

@@ -1,6 +1,7 @@
 -- A row, cell by cell. Assumes nothing.
-use Rattle.std.proofs.Common.{◌≡◌, ℕ, ◌+◌, ◌-◌, ◌<◌, ◌≤◌, List, [], ◌∷◌, ◌++◌, map, Some, None, Ok, Err, Option, Result, sym, refl, ap, ◌∙◌, subst, append_assoc, append-nil, arith, MatchOption}
+use Rattle.std.proofs.Common.{◌≡◌, ℕ, ◌+◌, ◌-◌, ◌<◌, ◌≤◌, List, [], ◌∷◌, ◌++◌, map, Some, None, Ok, Err, Option, Result, sym, refl, ap, ◌∙◌, subst, append_assoc, append-nil, arith, IfOk, MatchOption}
 use Rattle.std.specs.List.{range_with_len}
+use Rattle.std.specs.Result.{result_or}
 use Rattle.std.proofs.lemmas.Option.{MatchOption-at_none, MatchOption-at_some}
 use Rattle.std.proofs.lemmas.Bool.Decides.{nat_tests}
 use Rattle.grid.specs.declared.blank.Blank.{Blank}
@@ -10,6 +11,11 @@ use Rattle.grid.specs.Meanings.{Meaning}
 use Rattle.grid.specs.Piles.{before, survey}
 use Rattle.grid.specs.Windows.{cell_if_any, cell_of, height_of, width_of}
 use Rattle.coasts.proofs.Rows.{none_left, one_less}
+
+-- where `r.or(Err(e))` is `Ok`, so was `r`
+pub went_well : {T E D P : Type 0} (r : Result T E) (x : T) (e : D) → Ok x ≡ result_or r (Err e) → IfOk r (λ _. P) → P
+went_well (Ok y) x e h p = p
+went_well (Err y) x e h p = cc
 
 pub the_cell : (v : Window) (i j : ℕ) (at : Cell) → i < width_of v → j < height_of v → Some at ≡ cell_if_any v i j → at ≡ cell_of v i j
 the_cell v i j at h k e = grind (arith, nat_tests)

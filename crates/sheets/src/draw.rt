@@ -23,6 +23,7 @@ fn draw_row<F: Field>(
     ensures long { length heights.new ≡ length heights.old }
 {
     for (column, place) in heights.iter_mut().enumerate() {
+        // The row is as wide as the window, so that each column fits and has its cell.
         let Some(at) = window.cell(column as u16, row) else {
             break;
         };
