@@ -1,4 +1,4 @@
-use crate::reference::REFERENCE;
+use crate::reference::{REFERENCE, WIDE};
 use request::{Kind, Request};
 use sheets::answer::answer;
 use std::test::Fail;
@@ -102,12 +102,10 @@ fn answers_of_the_reference(rt: HostRuntime) -> Result<(), Fail> {
 
 #[test]
 fn wide_windows_of_heights(rt: HostRuntime) -> Result<(), Fail> {
-    // The first is drawn through a world, since its rows outrun a table; of the second there is too little.
-    let lines: [&[u8]; 2] = [b"heights 5 0 0 56 8\n", b"heights 5 0 0 57 1\n"];
-    for line in lines {
+    // The first is drawn through a world, the second cell by cell.
+    for (line, expected) in WIDE {
         let text = answer(rt.alloc(), line)?;
-        let expected = coasts::answer::answer(rt.alloc(), line)?;
-        assert_eq!(rt; text.as_str(), expected.as_str());
+        assert_eq!(rt; text.as_str(), expected);
     }
     Ok(())
 }

@@ -1,12 +1,9 @@
 // The kinds of coast, as piles over the noise.
-ghost use Rattle.std.specs.Prelude.{◌≡◌, false};
-ghost use Rattle.grid.specs.declared.chunk.Chunk.{Chunk};
+ghost use Rattle.std.specs.Prelude.{◌≡◌};
 ghost use Rattle.grid.specs.Piles.{step};
 ghost use Rattle.request.specs.declared.Kind.TheVariants.{Heights as KindHeights, Roads as KindRoads, Sites as KindSites};
-ghost use Rattle.tables.specs.Caches.{below_of, table_of};
-ghost use Rattle.tables.specs.Tables.{holds};
 ghost use Rattle.worlds.specs.Refusals.{looked};
-ghost use Rattle.coasts.specs.Kinds.{formula, rules_of};
+ghost use Rattle.coasts.specs.Kinds.{Unfilled, formula, rules_of, under};
 
 use grid::cell::Cell;
 use grid::field::Field;
@@ -36,29 +33,32 @@ pub type Roads = Cached<Sites, Road>;
 fn cached<F: Field, R: Rule>(below: F, rule: R) -> Cached<F, R>
     ensures meaning { ⟦<Cached<F, R> as Field>⟧.meaning result ≡ step (R.Rule.stencil rule) (F.Field.meaning below) }
     // Making a pile asks nothing.
-    ensures unasked { below_of result.below ≡ below }
-    ensures empty { (k : Chunk) → holds (table_of result.below) k ≡ false }
+    ensures unasked { under result ≡ below }
+    ensures empty { Unfilled result }
 {
     Layer::new(Cache::new(below), rule)
 }
 
 #[tactic(auto, unfolding(grid::specs::Piles::carry))]
 pub fn heights(seed: u64) -> Heights
-    ensures { ⟦<Heights as Field>⟧.meaning result ≡ formula (rules_of KindHeights) seed }
+    ensures meaning { ⟦<Heights as Field>⟧.meaning result ≡ formula (rules_of KindHeights) seed }
+    ensures empty { Unfilled result × Unfilled (under result) }
 {
     cached(cached(Noise::new(seed), Smoothing {}), Smoothing {})
 }
 
 #[tactic(auto, unfolding(grid::specs::Piles::carry))]
 pub fn sites(seed: u64) -> Sites
-    ensures { ⟦<Sites as Field>⟧.meaning result ≡ formula (rules_of KindSites) seed }
+    ensures meaning { ⟦<Sites as Field>⟧.meaning result ≡ formula (rules_of KindSites) seed }
+    ensures empty { Unfilled result × (Unfilled (under result) × Unfilled (under (under result))) }
 {
     cached(heights(seed), Settlement {})
 }
 
 #[tactic(auto, unfolding(grid::specs::Piles::carry))]
 pub fn roads(seed: u64) -> Roads
-    ensures { ⟦<Roads as Field>⟧.meaning result ≡ formula (rules_of KindRoads) seed }
+    ensures meaning { ⟦<Roads as Field>⟧.meaning result ≡ formula (rules_of KindRoads) seed }
+    ensures empty { Unfilled result × (Unfilled (under result) × (Unfilled (under (under result)) × Unfilled (under (under (under result))))) }
 {
     cached(sites(seed), Road {})
 }

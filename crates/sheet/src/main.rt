@@ -3,7 +3,7 @@
 
 ghost use Rattle.std.specs.Prelude.{IfOk, take};
 ghost use Rattle.std.specs.Io.KnownBytes.{Consumes};
-ghost use Rattle.sheet.specs.Input.{StopsAtLineFeed};
+ghost use Rattle.sheet.specs.Input.{Complete, StopsAtLineFeed};
 
 use programs::ending::exit_code;
 use request::LONGEST_LINE;
@@ -16,6 +16,7 @@ use std::process::ExitCode;
 // An array and no vector, so that reading a line cannot fail for want of memory; and `read` byte by byte, so that the contract can say what is left of the input.
 fn read_line<R: Read>(input: &mut R, line: &mut [u8; LONGEST_LINE]) -> io::Result<usize>
     ensures line { IfOk result (StopsAtLineFeed line.new) }
+    ensures complete { IfOk result (λ n. Complete line.new n (R.Read.remaining input.new)) }
     // The bytes of the line are all that was taken of the input.
     ensures taken { IfOk result (λ n. Consumes (R.Read.remaining input.old) (R.Read.remaining input.new) (take n line.new)) }
 {

@@ -3,22 +3,16 @@ use Rattle.std.proofs.Common.{◌≡◌, ℕ, ◌+◌, ◌-◌, ◌<◌, ◌≤�
 use Rattle.std.specs.List.{range_with_len}
 use Rattle.std.specs.Result.{result_or}
 use Rattle.std.proofs.lemmas.Option.{MatchOption-at_none, MatchOption-at_some}
-use Rattle.std.proofs.lemmas.Bool.Decides.{nat_tests}
 use Rattle.grid.specs.declared.blank.Blank.{Blank}
 use Rattle.grid.specs.declared.cell.Cell.{Cell}
-use Rattle.grid.specs.declared.window.Window.{Window}
 use Rattle.grid.specs.Meanings.{Meaning}
 use Rattle.grid.specs.Piles.{before, survey}
-use Rattle.grid.specs.Windows.{cell_if_any, cell_of, height_of, width_of}
 use Rattle.coasts.proofs.Rows.{none_left, one_less}
 
 -- where `r.or(Err(e))` is `Ok`, so was `r`
 pub went_well : {T E D P : Type 0} (r : Result T E) (x : T) (e : D) → Ok x ≡ result_or r (Err e) → IfOk r (λ _. P) → P
 went_well (Ok y) x e h p = p
 went_well (Err y) x e h p = cc
-
-pub the_cell : (v : Window) (i j : ℕ) (at : Cell) → i < width_of v → j < height_of v → Some at ≡ cell_if_any v i j → at ≡ cell_of v i j
-the_cell v i j at h k e = grind (arith, nat_tests)
 
 -- heights before those that the cells after them gave
 abbrev onto : List ℕ → Result (List ℕ) Blank → Result (List ℕ) Blank

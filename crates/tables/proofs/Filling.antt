@@ -1,16 +1,16 @@
 -- Filling a slot of a chunk table. Assumes nothing.
-use Rattle.std.proofs.Common.{◌≡◌, ℕ, ◌+◌, ◌*◌, ◌%◌, ◌<◌, Bool, true, false, cond, eqb, ◌≢◌, List, length, get_or, set, replicate, Some, None, Ok, Err, Option, sym, ap, ◌∙◌, subst, arith, get_or-set_other, below_more}
+use Rattle.std.proofs.Common.{◌≡◌, ℕ, ◌+◌, ◌*◌, ◌%◌, ◌<◌, true, false, cond, eqb, ◌≢◌, List, length, get_or, set, replicate, Some, None, Ok, Err, Option, ap, ◌∙◌, subst, arith, get_or-set_other, below_more}
 use lib.ListN.{get_or-replicate}
 use Rattle.std.proofs.lemmas.Bool.Decides.{nat_tests}
 use Rattle.std.proofs.lemmas.Grind.{get_or-set_at}
-use Rattle.std.proofs.lemmas.Bool.{both_ways, cond-false, cond-true, false≢true}
+use Rattle.std.proofs.lemmas.Bool.{both_ways, false≢true}
 use Rattle.grid.specs.declared.cell.Cell.{Cell}
 use Rattle.grid.specs.declared.chunk.Chunk.{Chunk}
 use Rattle.grid.specs.Meanings.{Answer, Meaning}
-use Rattle.grid.specs.Places.{cell_in, chunk_of, inside, place_of, same_chunk, slot_of}
+use Rattle.grid.specs.Places.{cell_in, chunk_of, place_of, same_chunk, slot_of}
 use Rattle.grid.proofs.Chunks.{cell_in_place, chunk_cell_in, place_cell_in, place_lt, same_chunk_refl, same_chunk_true, slot_lt}
 use Rattle.tables.specs.declared.table.Table.{Table}
-use Rattle.tables.specs.Tables.{Right, height_for, holding, holds, index_of, is_chunk, mark, stored, touch}
+use Rattle.tables.specs.Tables.{Right, height_for, holding, holds, index_of, is_chunk, mark, stored}
 
 -- ---- addresses
 
@@ -38,12 +38,6 @@ Holding k t t' = (j : Chunk) → holds t' j ≡ holding k (holds t) j
 
 now_held : (k : Chunk) (t t' : Table) → Holding k t t' → holds t' k ≡ true
 now_held k t t' h = grind (arith, nat_tests, h k, same_chunk_refl k)
-
-pub touched : (c : Cell) (t t' : Table) → inside c ≡ true → Holding (chunk_of c) t t' → (j : Chunk) → holds t' j ≡ touch c (holds t) j
-touched c t t' i h j = h j ∙ ap (λ (H : Chunk → Bool). H j) (sym (cond-true (inside c) (holding (chunk_of c) (holds t)) (holds t) i))
-
-pub untouched : (c : Cell) (t : Table) → inside c ≡ false → (j : Chunk) → holds t j ≡ touch c (holds t) j
-untouched c t i j = ap (λ (H : Chunk → Bool). H j) (sym (cond-false (inside c) (holding (chunk_of c) (holds t)) (holds t) i))
 
 -- ---- numbers
 

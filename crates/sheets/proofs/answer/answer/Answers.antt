@@ -35,7 +35,7 @@ pub returns-in_ok-draw-in-Heights-2 : goal.returns-in_ok-draw-in-Heights-2
 returns-in_ok-draw-in-Heights-2 c =
     let p = c.in-Ok.plan in
     let out = string_bytes c.in_ok-draw-in-Heights-2.field-0 in
-    let drawn = subst (λ (m : Meaning). Drawn m p.window out) c.heights.ensures c.in_ok-draw-in-Heights-2.ensures in
+    let drawn = subst (λ (m : Meaning). Drawn m p.window out) c.heights.ensures.meaning c.in_ok-draw-in-Heights-2.ensures in
     prints_built c.args.input.now out p c.in-Ok.ensures (ap (λ (k : Kind). is_some (rules_of k)) (sym c.in-Heights-2.is))
     (subst (λ (k : Kind). Drawn (formula (all_rules_of k) p.seed) p.window out) (sym c.in-Heights-2.is) drawn)
 

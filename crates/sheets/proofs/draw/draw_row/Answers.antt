@@ -4,7 +4,8 @@ use Rattle.std.proofs.lemmas.Grind.{take-set_at}
 use Rattle.std.proofs.lemmas.List.{length-set}
 use Rattle.grid.specs.Meanings.{Meaning}
 use Rattle.grid.specs.Windows.{cell_of, width_of}
-use Rattle.sheets.proofs.Rows.{Found, found_all, found_blank, found_more, the_cell}
+use Rattle.grid.proofs.Rectangles.{the_cell}
+use Rattle.sheets.proofs.Rows.{Found, found_all, found_blank, found_more}
 use Rattle.sheets.proofs.draw.draw_row.Given as given
 use Rattle.sheets.proofs.draw.draw_row.Goals as goal
 use Rattle.sheets.proofs.draw.draw_row.Goals.{After-ask}
